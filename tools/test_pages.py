@@ -1,11 +1,12 @@
 #!/usr/bin/env python3
 """Holds the pages to the crates: the picture and the tables of docs/ARCHITECTURE.md to crates.txt and to the crates' first comments,
-the predicates and steps of docs/TRAVERSALS.md and the functions that docs/DECISIONS.md names for their requires and ensures to the
-contracts, the words of docs/GLOSSARY.md to the definitions; every page to its length, its links, and the crates, files and functions that
+the predicates and steps of docs/TRAVERSALS.md and the functions of docs/requires.txt to the contracts, the words of docs/GLOSSARY.md to the definitions; every page to its length, its links, and the crates, files and functions that
 it names; and the crates to the rules of CONTRIBUTING.md: layers, number and size, an edit for each.
 
 Each check is a function of the text of every page and of crates.txt by path, and gives its faults. The repository must have none, and the
 pages with one line, name or link changed must have some. The last line is 'N passed, M failed'.
+
+With --requires: prints by crate the functions of docs/requires.txt, what each asks for or supposes, and why; and tests nothing.
 """
 import functools
 import importlib.machinery
@@ -19,7 +20,7 @@ sys.dont_write_bytecode = True
 ROOT = Path(__file__).resolve().parent.parent
 LIST, CRATES, TRAVERSALS, WORDS = "crates.txt", "docs/ARCHITECTURE.md", "docs/TRAVERSALS.md", "docs/GLOSSARY.md"
 DECISIONS, READING = "docs/DECISIONS.md", "docs/READING.md"
-DEMANDS = "docs/DEMANDS.md"
+DEMANDS, ASKING = "docs/DEMANDS.md", "docs/requires.txt"
 SENTENCES = (DEMANDS, "docs/demands/")  # the pages with a row for each sentence of the papers
 PROSE = {"edits", "edit"}  # words that stand before an edit and name no crate
 FOLDERS = ["", "docs", "docs/decisions", "docs/demands", "docs/landings", "examples"]
@@ -63,7 +64,7 @@ listing = load("tools/crates")
 def repository():
     pages = [path for folder in FOLDERS for path in sorted((ROOT / folder).glob("*.md"))]
     edits = sorted((ROOT / "crates").glob("*/must-fail/*.edit"))
-    return {path: text_of(path) for path in [LIST, *(str(file.relative_to(ROOT)) for file in [*pages, *edits])]}
+    return {path: text_of(path) for path in [LIST, ASKING, *(str(file.relative_to(ROOT)) for file in [*pages, *edits])]}
 
 
 def pages(texts, old=True):
@@ -340,12 +341,22 @@ def listed(texts, title):
     return set(re.findall(r"`(\w+(?:::\w+)+)`", entry[1] if entry else ""))
 
 
+def reasons(texts, kind):
+    """The functions that docs/requires.txt has below a reason of a kind, each with the reason."""
+    found = re.findall(rf"^{kind}: (.*)\n((?: +.*\n?)+)", texts[ASKING], re.M)
+    return {name: reason for reason, names in found for name in names.split()}
+
+
+def asking():
+    """The functions open to other crates that require something."""
+    return {name for name, (head, is_open) in signatures().items() if is_open and "requires {" in head}
+
+
 def requirements(texts):
-    """The functions open to other crates that require something are those that the decision about them names."""
-    named = listed(texts, "Functions open to another crate with a `requires`.")
-    there = {name for name, (head, is_open) in signatures().items() if is_open and "requires {" in head}
-    if named != there:
-        yield f"functions with a requires: {sorted(named ^ there)}"
+    """The functions open to other crates that require something are those that are listed."""
+    named = set(reasons(texts, "requires"))
+    if named != asking():
+        yield f"functions with a requires: {sorted(named ^ asking())}"
 
 
 def has_premise(text):
@@ -368,16 +379,30 @@ def has_premise(text):
     return False
 
 
-def premises(texts):
-    """The functions open to other crates whose ensures has a premise, of its own or of FromOne and FromTwo, are those that are named."""
-    named = listed(texts, "Functions open to another crate whose `ensures` has a premise.")
-    there = set()
+def supposing():
+    """The functions open to other crates whose ensures has a premise, of its own or of FromOne and FromTwo."""
     for name, (head, is_open) in signatures().items():
         told = re.findall(r"ensures (?:\w+ )?\{ λ \S+ ⌜(.*?)⌝", head, re.S)
         if is_open and any(has_premise(text) or re.search(r"\bFrom(One|Two)\b", text) for text in told):
-            there.add(name)
-    if named != there:
-        yield f"functions with a premise in their ensures: {sorted(named ^ there)}"
+            yield name
+
+
+def premises(texts):
+    """The functions open to other crates whose ensures has a premise are those that are listed."""
+    named = set(reasons(texts, "premise"))
+    if named != set(supposing()):
+        yield f"functions with a premise in their ensures: {sorted(named ^ set(supposing()))}"
+
+
+def print_asking(texts):
+    """By crate, the functions that are listed, with the clauses and the reason."""
+    for kind, clause in (("requires", "requires"), ("premise", "ensures")):
+        told = reasons(texts, kind)
+        for crate in sorted({name.split("::")[0] for name in told}):
+            print(f"{crate}: {kind}")
+            for name in sorted(name for name in told if name.split("::")[0] == crate):
+                clauses = (contract(name) or {}).get(clause, "")
+                print(f"    {name}: {told[name]}\n        {' '.join(clauses.split())}")
 
 
 def silent(texts):
@@ -416,7 +441,7 @@ CHECKS = [layers, sizes, tables, lengths, links, functions, files, cited, refuse
 def other(texts, path, found, new):
     """The pages that are needed, with something new in the place of what was found in one of them."""
     start, end = found.span(1)
-    needed = (LIST, CRATES, TRAVERSALS, WORDS, DECISIONS, READING)
+    needed = (LIST, ASKING, CRATES, TRAVERSALS, WORDS, DECISIONS, READING)
     return {name: texts[name] for name in needed} | {path: texts[path][:start] + new + texts[path][end:]}
 
 
@@ -439,8 +464,8 @@ def changed(texts):
         (TRAVERSALS, predicates, r"^\| `[A-Z]\w+` \|.*?laws? `([\w-]+)`.*\n", "nobody"),
         (TRAVERSALS, steps, r"^\| \d+ \| `\w+::([\w:]+)`.*\n", "nobody"),
         (TRAVERSALS, steps, r"^\| (`intake::intake_box_\w+`) \| `\w+::", "`intake::intake_tick`"),
-        (DECISIONS, requirements, r"(`\w+::put_\w+`)", "nothing"),
-        (DECISIONS, premises, r"(`rules\w*::in_\w+`)", "nothing"),
+        (ASKING, requirements, r"\b(\w+::put_\w+)", ""),
+        (ASKING, premises, r"\b(rules\w*::in_\w+)", ""),
         (DECISIONS, silent, r"(`vectors\w*::\w+::(?:text|all)`)", "nothing"),
         (DEMANDS, edited, r"\b(reading|spec_language) `\w+`", "limits"),
         (WORDS, cited, r"`[A-Z]\w+\.(\w+)`", "nonesuch"),
@@ -469,6 +494,11 @@ def noticed(texts, check):
 
 def main():
     texts = repository()
+    if sys.argv[1:] == ["--requires"]:
+        try:
+            return print_asking(texts)
+        except BrokenPipeError:  # whoever reads has seen enough
+            return sys.stderr.close()
     for check in CHECKS:
         found = list(check(texts))
         expect(not found, f"{check.__name__}: " + "\n  ".join(found))

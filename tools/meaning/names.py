@@ -212,9 +212,24 @@ class Walk:
                 self.at += upto(self.tokens[self.at :], "in") + 1
             elif word == ".":
                 self.projection()
+            elif word == "elim" and self.at + 1 < len(self.tokens) and self.tokens[self.at + 1].text == "[":
+                self.cases(bound)
             else:
                 self.name(bound)
         return bound
+
+    def cases(self, bound):
+        """The cases 'elim [ constructor x ↦ term | .. ]': the names of a pattern are bound in its term."""
+        start = self.at + 2
+        end = start + upto(self.tokens[start:], "]")
+        while start < end:
+            stop = start + upto(self.tokens[start:end], "|")
+            arrow = start + upto(self.tokens[start:stop], "↦")
+            inner = set(bound)
+            self.pattern(self.tokens[start:arrow], inner)
+            self.run(self.tokens[arrow + 1 : stop], inner)
+            start = stop + 1
+        self.at = end + 1
 
     def label(self, bound):
         """The label of a field, or of an argument that is given by its name."""

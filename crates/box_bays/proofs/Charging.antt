@@ -33,7 +33,8 @@ use Rattle.spec_base.specs.Parts.{slot, put}
 use Rattle.numbers.proofs.Putting.{put-behind}
 use Rattle.spec_bay.specs.Called.{Called, called, number}
 use Rattle.spec_bay.specs.Stretch.{stateAt, countAt, bayLength, stretchLength, sequenceIn, readBackIn, stateIn, ledgerIn, withLedger}
-use Rattle.spec_bay.specs.BayCalls.{stateKept, delivering, charged, bayStepOf, bayChargedOf, bayLedgerOf, bayNewYearOf}
+use Rattle.spec_bay.specs.BayCalls.{delivering, bayLedgerOf, bayNewYearOf}
+use Rattle.box_bays.specs.Layers.{stateKept, charged, bayStepOf, bayChargedOf}
 use Rattle.theory_bay.proofs.Fields.{ledger-sized}
 use Rattle.box_bays.proofs.Ticking.{short-step, refused-step, kept-written}
 

@@ -1,14 +1,16 @@
 -- One law for each return of the code of a bay's tick with its record and of the two readers, over plain lists.
-use Prim.Native.Nat.{ℕ, zero, suc}
+use Prim.Native.Nat.{ℕ, zero, suc, _+_, _≤_}
 use native.Mathlib.Omega.{arith}
 use mathlib.Core.Path.{_≡_, refl, sym, ap, ap₂, _∙_}
 use mathlib.Core.Logic.{_≢_}
+use mathlib.Core.Bool.{Bool, true, false}
 use mathlib.Core.List.{List, [], _∷_}
 use lib.ListN.{length}
 use lib.Seq.{sets}
 use borrow.Author.Tests.{eq-eqb, ne-eqb}
 use Rattle.spec_base.specs.Limits.{numberBytes}
-use Rattle.spec_base.specs.Bytes.{leBytes, replaced}
+use Rattle.spec_base.specs.Bytes.{leBytes, leNumber, replaced}
+use Rattle.spec_base.specs.Parts.{slot, put}
 use Rattle.numbers.proofs.Bytes.{length-leBytes}
 use Rattle.numbers.proofs.Writing.{replaced-by}
 use Rattle.spec_tick.specs.AnswerRecord.{answerLength}
@@ -16,11 +18,19 @@ use Rattle.spec_tick.specs.Record.{recordLength, recordOf, panelLength, panelOf
 use Rattle.spec_tick.specs.Recording.{following}
 use Rattle.records.proofs.Records.{record-sized}
 use Rattle.records.proofs.Panels.{length-panel}
-use Rattle.numbers.proofs.Putting.{stored}
+use Rattle.numbers.proofs.Putting.{stored, put-slot, length-put, slot-put, put-before, put-behind}
+use Rattle.spec_tick.specs.StateRecord.{stateLength}
+use Rattle.spec_tick.specs.Tick.{Outcome, outcome, tickOf}
+use Rattle.spec_tick.specs.Demands.{number, stateAfterwards}
+use Rattle.theory_tick.proofs.Demand1.{demand-1}
+use Rattle.spec_bay.specs.Ledgers.{ledgerLength, passes, added}
+use Rattle.box_ledgers.proofs.Theorems.{added-sized}
 use Rattle.spec_bay.specs.Called.{called}
-use Rattle.spec_bay.specs.Stretch.{countAt, stretchLength, stateIn, lastNumberIn, serviceOnlyIn}
-use Rattle.spec_bay.specs.BayCalls.{counted, recorded, showing, bayChargedOf, bayTickOf, bayServiceOf, bayPanelOf}
-use Rattle.theory_bay.proofs.Fields.{state-sized}
+use Rattle.spec_bay.specs.Stretch.{stateAt, countAt, bayLength, stretchLength, sequenceIn, readBackIn, stateIn, lastNumberIn, serviceOnlyIn, ledgerIn, withLedger}
+use Rattle.spec_bay.specs.BayCalls.{delivering, byOutcome, showing, bayTickOf, bayServiceOf, bayPanelOf}
+use Rattle.box_bays.specs.Layers.{stateKept, charged, counted, recorded, bayStepOf, bayChargedOf}
+use Rattle.theory_bay.proofs.Fields.{ledger-sized, state-sized}
+use Rattle.theory_bay.proofs.Ticking.{tick-sized}
 
 -- ---- an instant is counted, and its record is written
 module _ (s : List ℕ) (e : ℕ) (answer trace : List ℕ)
@@ -45,26 +55,75 @@ module _ (s : List ℕ) (e : ℕ) (answer trace : List ℕ) where
   unfolding bayTickOf
   other-record n = rw (ne-eqb (length trace) recordLength n)
 
-  module _ (j : length trace ≡ recordLength) where
-    as-recorded : recorded e trace (bayChargedOf s e answer) ≡ bayTickOf s e answer trace
-    unfolding bayTickOf
-    as-recorded = rw (eq-eqb (length trace) recordLength j)
+  abbrev x : ℕ → ℕ
+  x = delivering s e
 
-    module _ (n : ℕ) (s′ answer′ : List ℕ) (w : called n s′ (answer′ ∷ []) ≡ bayChargedOf s e answer) where
-      pub recorded-tick : n ≡ 0 → {s″ trace′ : List ℕ}
-          → called 0 s″ (answer′ ∷ trace′ ∷ []) ≡ recorded e trace (called 0 s′ (answer′ ∷ []))
-          → called n s″ (answer′ ∷ trace′ ∷ []) ≡ bayTickOf s e answer trace
-      recorded-tick h {s″} {trace′} c =
-          ap (λ (k : ℕ). called k s″ (answer′ ∷ trace′ ∷ [])) h ∙ c
-          ∙ ap (λ (k : ℕ). recorded e trace (called k s′ (answer′ ∷ []))) (sym h)
-          ∙ ap (recorded e trace) w ∙ as-recorded
+  abbrev inner : Outcome
+  inner = tickOf (sequenceIn s) (stateIn s) e (readBackIn s) answer
 
-      pub refused-tick : n ≢ 0 → called n s′ (answer′ ∷ trace ∷ []) ≡ bayTickOf s e answer trace
-      refused-tick h = go n h ∙ ap (recorded e trace) w ∙ as-recorded
-        where
-          go : (n : ℕ) → n ≢ 0 → called n s′ (answer′ ∷ trace ∷ []) ≡ recorded e trace (called n s′ (answer′ ∷ []))
-          go zero h = absurd (h refl)
-          go (suc n) h = refl
+  -- the layers of the code are the cases of the definition
+  module _ (z : length s ≡ stretchLength) where
+    module _ (state left : List ℕ) (l : length state ≡ stateLength) (below : passes (ledgerIn s) (delivering s e) ≡ false) where
+      before-ledger : (i m : ℕ) → i + m ≤ bayLength
+          → slot i m (withLedger (added (delivering s e) (ledgerIn s)) (put stateAt stateLength state s)) ≡ slot i m (put stateAt stateLength state s)
+      before-ledger i m h =
+          let k = length-put stateAt stateLength state s (omega arith) l in
+          put-before bayLength ledgerLength (added x (ledgerIn s)) (put stateAt stateLength state s) (omega arith)
+          (added-sized x (ledgerIn s) (ledger-sized s z) below) i m h
+
+      instant-noted : recorded e trace (called 0 (withLedger (added (delivering s e) (ledgerIn s)) (put stateAt stateLength state s)) (left ∷ []))
+          ≡ called 0
+          (put countAt numberBytes (leBytes numberBytes (following (lastNumberIn s)))
+          (withLedger (added (delivering s e) (ledgerIn s)) (put stateAt stateLength state s)))
+          (left ∷ recordOf (following (lastNumberIn s)) e left state ∷ [])
+      instant-noted =
+          ap₂ (λ (c : ℕ) (r : List ℕ).
+          called 0 (put countAt numberBytes (leBytes numberBytes (following c)) (withLedger (added (delivering s e) (ledgerIn s)) (put stateAt stateLength state s)))
+          (left ∷ recordOf (following c) e left r ∷ []))
+          (ap leNumber (before-ledger countAt numberBytes (omega arith)
+          ∙ put-behind stateAt stateLength state s (omega arith) l countAt numberBytes (omega arith)))
+          (before-ledger stateAt stateLength (omega arith) ∙ slot-put stateAt stateLength state s (omega arith) l)
+
+    by-layers : (o : Outcome) → inner ≡ o → recorded e trace (charged s (delivering s e) answer (stateKept s o)) ≡ byOutcome s e answer trace (delivering s e) o
+    by-layers (outcome zero state left) q = go (passes (ledgerIn s) (delivering s e)) refl
+      where
+        sized : length state ≡ stateLength
+        sized =
+            sym (ap (λ (o : Outcome). length (stateAfterwards o)) q) ∙ tick-sized (sequenceIn s) (stateIn s) e (readBackIn s) answer (state-sized s z)
+
+        go : (b : Bool) → passes (ledgerIn s) (delivering s e) ≡ b
+            → recorded e trace (charged s (delivering s e) answer (stateKept s (outcome zero state left)))
+            ≡ byOutcome s e answer trace (delivering s e) (outcome zero state left)
+        go true h = rw h
+        go false h = rw h (instant-noted state left sized h)
+    by-layers (outcome (suc n) state left) q =
+        let m : number inner ≡ suc n = ap number q in
+        let k = demand-1 .refusal-writes-nothing (sequenceIn s) (stateIn s) e (readBackIn s) answer (λ y. omega arith) in
+        let w : outcome (suc n) state left ≡ outcome (suc n) (stateIn s) answer =
+        sym q ∙ k ∙ ap (λ (i : ℕ). outcome i (stateIn s) answer) m in
+        ap (λ (o : Outcome). recorded e trace (charged s x answer (stateKept s o))) w
+        ∙ ap (λ (r : List ℕ). called (suc n) r (answer ∷ trace ∷ [])) (put-slot stateAt stateLength s)
+
+    module _ (j : length trace ≡ recordLength) where
+      as-recorded : recorded e trace (bayChargedOf s e answer) ≡ bayTickOf s e answer trace
+      unfolding bayTickOf bayChargedOf bayStepOf
+      as-recorded = rw (eq-eqb (length trace) recordLength j) (by-layers inner refl)
+
+      module _ (n : ℕ) (s′ answer′ : List ℕ) (w : called n s′ (answer′ ∷ []) ≡ bayChargedOf s e answer) where
+        pub recorded-tick : n ≡ 0 → {s″ trace′ : List ℕ}
+            → called 0 s″ (answer′ ∷ trace′ ∷ []) ≡ recorded e trace (called 0 s′ (answer′ ∷ []))
+            → called n s″ (answer′ ∷ trace′ ∷ []) ≡ bayTickOf s e answer trace
+        recorded-tick h {s″} {trace′} c =
+            ap (λ (k : ℕ). called k s″ (answer′ ∷ trace′ ∷ [])) h ∙ c
+            ∙ ap (λ (k : ℕ). recorded e trace (called k s′ (answer′ ∷ []))) (sym h)
+            ∙ ap (recorded e trace) w ∙ as-recorded
+
+        pub refused-tick : n ≢ 0 → called n s′ (answer′ ∷ trace ∷ []) ≡ bayTickOf s e answer trace
+        refused-tick h = go n h ∙ ap (recorded e trace) w ∙ as-recorded
+          where
+            go : (n : ℕ) → n ≢ 0 → called n s′ (answer′ ∷ trace ∷ []) ≡ recorded e trace (called n s′ (answer′ ∷ []))
+            go zero h = absurd (h refl)
+            go (suc n) h = refl
 
 -- ---- the readers
 module _ (s shown : List ℕ) (viewLength : ℕ) (trace view : List ℕ) where

@@ -18,7 +18,7 @@ use Rattle.instants.proofs.Replying.{replied-from}
 use Rattle.numbers.proofs.Putting.{put-slot}
 use Rattle.spec_bay.specs.Called.{called}
 use Rattle.spec_bay.specs.Stretch.{stateAt, stretchLength, sequenceIn, readBackIn, stateIn}
-use Rattle.spec_bay.specs.BayCalls.{stateKept, bayStepOf}
+use Rattle.box_bays.specs.Layers.{stateKept, bayStepOf}
 use Rattle.theory_bay.proofs.Fields.{state-sized}
 
 -- the core's answer, on the fields that were read

@@ -1,2 +1,3 @@
+pub mod Layers
 pub mod Moves
 pub mod Names

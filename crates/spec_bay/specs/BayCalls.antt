@@ -20,47 +20,35 @@ use Rattle.spec_tick.specs.Tick.{Outcome, outcome, tickOf}
 use Rattle.spec_tick.specs.Deliveries.{deliveries}
 use Rattle.spec_bay.specs.Ledgers as Ledgers
 use Rattle.spec_bay.specs.Ledgers.{readingLength, passes, added, readingOf}
-use Rattle.spec_bay.specs.Called.{Called, called, first}
+use Rattle.spec_bay.specs.Called.{Called, called}
 use Rattle.spec_bay.specs.Stretch.{stateAt, countAt, positionsAt, sequenceIn, readBackIn, serviceOnlyIn, stateIn, lastNumberIn, positionsIn, ledgerIn, vacated, withLedger, Terms, filled}
 
 -- 02, item 8: 'a shared ceiling of 65,536 reactions an instant'
 abbrev pub sharedCeiling : ℕ
 sharedCeiling = 65536
 
--- what a tick makes of the state record, put where the slot has it
-abbrev pub stateKept : List ℕ → Outcome → Called
-stateKept s (outcome number state answer) = called number (put stateAt stateLength state s) (answer ∷ [])
-
--- the tick on the sequence, the state and the read-back set that the bay holds, without ledger and record
-unfoldable pub bayStepOf : (s : List ℕ) (e : ℕ) (answer : List ℕ) → Called
-bayStepOf s e answer = stateKept s (tickOf (sequenceIn s) (stateIn s) e (readBackIn s) answer)
-
--- 02, item 12: what it delivers to a farm; nothing where it is turned down, and nothing in a wrong instant
+-- 02, item 12: what the tick on what the bay holds delivers to a farm; nothing where it is turned down, and nothing in a wrong instant
 abbrev pub delivering : (s : List ℕ) (e farm : ℕ) → ℕ
 delivering s e = deliveries (sequenceIn s) (readBackIn s) (stateIn s) e
 
--- an instant adds these litres to the ledger of the bay number; '19, last of all and writing nothing', if 'the exact sum of a farm's
--- total and its litres would pass 16,777,216'
-abbrev pub charged : (s : List ℕ) (litres : ℕ → ℕ) (answer : List ℕ) → Called → Called
-charged s litres answer (called zero after lent) =
-    cond (passes (ledgerIn s) litres) (called 19 s (answer ∷ [])) (called 0 (withLedger (added litres (ledgerIn s)) after) lent)
-charged s litres answer (called (suc n) after lent) = called (suc n) after lent
+-- THE TICK (02, items 8, 10 and 12), by what the tick on its own comes to, with these litres: one turned down writes nothing, nor does one
+-- answered '19, last of all', if 'the exact sum of a farm's total and its litres would pass 16,777,216'; an instant moves the state,
+-- enters its litres, is counted, and leaves its number, inputs, answer and next state in the buffer `trace`
+abbrev pub byOutcome : (s : List ℕ) (e : ℕ) (answer trace : List ℕ) (litres : ℕ → ℕ) → Outcome → Called
+byOutcome s e answer trace litres (outcome (suc n) state answered) = called (suc n) s (answer ∷ trace ∷ [])
+byOutcome s e answer trace litres (outcome zero state answered) =
+    cond (passes (ledgerIn s) litres) (called 19 s (answer ∷ trace ∷ []))
+    (called 0
+    (put countAt numberBytes (leBytes numberBytes (following (lastNumberIn s)))
+    (withLedger (added litres (ledgerIn s)) (put stateAt stateLength state s)))
+    (answered ∷ recordOf (following (lastNumberIn s)) e answered state ∷ []))
 
-unfoldable pub bayChargedOf : (s : List ℕ) (e : ℕ) (answer : List ℕ) → Called
-bayChargedOf s e answer = charged s (delivering s e) answer (bayStepOf s e answer)
-
--- 02, item 10: an instant is counted, and leaves its number, input, answer and next state in the buffer `trace`; a call turned down
--- leaves no record
-abbrev pub counted : List ℕ → List ℕ
-counted s = put countAt numberBytes (leBytes numberBytes (following (lastNumberIn s))) s
-
-abbrev pub recorded : (e : ℕ) (trace : List ℕ) → Called → Called
-recorded e trace (called zero s lent) = called 0 (counted s) (first lent ∷ recordOf (following (lastNumberIn s)) e (first lent) (stateIn s) ∷ [])
-recorded e trace (called (suc n) s lent) = called (suc n) s (first lent ∷ trace ∷ [])
-
+-- number 1 for a record's buffer of another length, then the tick on the sequence, the state and the read-back set that the bay holds
 unfoldable pub bayTickOf : (s : List ℕ) (e : ℕ) (answer trace : List ℕ) → Called
 bayTickOf s e answer trace =
-    cond (eqb (length trace) recordLength) (recorded e trace (bayChargedOf s e answer)) (called 1 s (answer ∷ trace ∷ []))
+    cond (eqb (length trace) recordLength)
+    (byOutcome s e answer trace (delivering s e) (tickOf (sequenceIn s) (stateIn s) e (readBackIn s) answer))
+    (called 1 s (answer ∷ trace ∷ []))
 
 unfoldable pub bayReleaseOf : (s : List ℕ) → Called
 bayReleaseOf s = called 0 (vacated s) []

@@ -9,6 +9,7 @@ use mathlib.Core.List.{List, [], _∷_}
 use lib.ListN.{replicate}
 use lib.Dec.{eqb}
 use lib.Ieee.{ofBits, toBits, ofInt, whole, inUnsigned, toUnsigned}
+use Rattle.spec_language.specs.Litres.{deliveredBy}
 use Rattle.spec_base.specs.Limits.{numberBytes}
 use Rattle.spec_base.specs.Sets.{member, none, only, join, difference, insert, remove, subset, disjoint, membersFrom}
 use Rattle.spec_language.specs.Reaction.{reactBy}
@@ -29,12 +30,12 @@ use Rattle.spec_tick.specs.AnswerRecord.{answerLength, codeIn, answerRecord, en
 use Rattle.spec_base.specs.Parts.{put, zeros}
 use Rattle.spec_bay.specs.Table.{tableLength, entryLength, entryOf, place, lookup, saveOf}
 use Rattle.spec_bay.specs.Ledgers.{totalIn, totalsBytes, wouldPass, addedBelow}
-use Rattle.spec_tick.specs.Record.{recordOf, numberIn, panelLength, panelOf}
+use Rattle.spec_tick.specs.Record.{recordLength, recordOf, numberIn, panelLength, panelOf}
 use Rattle.spec_tick.specs.Recording.{following}
 use Rattle.spec_tick.specs.Tick.{outcome, tickBy}
-use Rattle.spec_bay.specs.Called.{called, number, memoryAfter, lentAfter, first}
+use Rattle.spec_bay.specs.Called.{Called, called, number, memoryAfter, lentAfter, first}
 use Rattle.spec_bay.specs.Stretch.{stateAt, countAt, positionsAt, bayLength, stretchLength, lengthIn, stateIn, lastNumberIn, positionsIn, ledgerIn, partOf, vacated, terms, filled}
-use Rattle.spec_bay.specs.BayCalls.{stateKept, bayStepOf, charged, recorded, bayReleaseOf, bayAdmitOf, baySaveOf, restored, bayServiceOf, bayPanelOf, bayLedgerOf, bayNewYearOf}
+use Rattle.spec_bay.specs.BayCalls.{byOutcome, bayTickOf, bayReleaseOf, bayAdmitOf, baySaveOf, restored, bayServiceOf, bayPanelOf, bayLedgerOf, bayNewYearOf}
 
 -- ends at once: ceiling 1
 abbrev ends : List ℕ
@@ -96,37 +97,50 @@ part-given-back = refl
 abbrev waitsIfRead : List ℕ
 waitsIfRead = 0x05 ∷ 0x02 ∷ 0x00 ∷ 0x07 ∷ 0x00 ∷ 0x01 ∷ 0x00 ∷ 0x00 ∷ []
 
-read-back : codeIn (first (lentAfter (bayStepOf (filled (terms waitsIfRead 1 0) 9 blank) 0 (replicate answerLength 77)))) ≡ 1
-unfolding bayStepOf tickBy decodeState valid active activeLabels encodeState encodeAnswer expand reactBy errorsBy reactionsBy filled vacated blank put zeros leBytes leNumber checked read front commandOf distinct wellFormed before everyLabel labelsOf subset disjoint membersFrom declaredBy commands loopNesting signalNesting ceiling none only member join insert remove
+read-back : codeIn (first (lentAfter (bayTickOf (filled (terms waitsIfRead 1 0) 9 blank) 0 (replicate answerLength 77) (replicate recordLength 77)))) ≡ 1
+unfolding bayTickOf tickBy decodeState valid active activeLabels encodeState encodeAnswer expand reactBy errorsBy reactionsBy filled vacated blank put zeros leBytes leNumber checked read front commandOf distinct wellFormed before everyLabel labelsOf subset disjoint membersFrom declaredBy commands loopNesting signalNesting ceiling none only member join insert remove wouldPass totalIn ofBits whole inUnsigned toUnsigned addedBelow toBits ofInt following deliveredBy
 read-back = refl
 
-state-moved : labelsIn (stateIn (memoryAfter (stateKept blank (outcome 0 (stateRecord 1 5) [])))) ≡ 5
-unfolding filled vacated blank put zeros leBytes leNumber
+-- a record's buffer of another length
+record-sized : number (bayTickOf blank 0 (replicate answerLength 77) (replicate 36 77)) ≡ 1
+unfolding bayTickOf
+record-sized = refl
+
+-- an instant that leaves a machine waiting at label 5, with so many litres for farm 2: the state moves, the litres are entered, and it is counted
+abbrev moving : (litres : ℕ) → Called
+moving n = byOutcome busy 0 [] [] (forTwo n) (outcome 0 (stateRecord 1 5) [])
+
+state-moved : labelsIn (stateIn (memoryAfter (moving 0))) ≡ 5
+unfolding wouldPass totalIn ofBits whole inUnsigned toUnsigned addedBelow toBits ofInt following busy filled vacated blank put zeros leBytes leNumber
 state-moved = refl
 
--- ---- its litres: entered, and 19 for one more than the limit, which leaves the slot and the answer
-litres-entered : totalIn 2 (ledgerIn (memoryAfter (charged busy (forTwo 4) [] (called 0 busy [])))) ≡ 9
-unfolding wouldPass totalIn ofBits whole inUnsigned toUnsigned addedBelow toBits ofInt busy filled vacated blank put zeros leBytes leNumber
+litres-entered : totalIn 2 (ledgerIn (memoryAfter (moving 4))) ≡ 9
+unfolding wouldPass totalIn ofBits whole inUnsigned toUnsigned addedBelow toBits ofInt following busy filled vacated blank put zeros leBytes leNumber
 litres-entered = refl
 
-nineteen : number (charged busy (forTwo 16777212) [] (called 0 busy [])) ≡ 19
-unfolding wouldPass totalIn ofBits whole inUnsigned toUnsigned addedBelow toBits ofInt busy filled vacated blank put zeros leBytes leNumber
+instant-counted : lastNumberIn (memoryAfter (moving 0)) ≡ 4
+unfolding wouldPass totalIn ofBits whole inUnsigned toUnsigned addedBelow toBits ofInt following busy filled vacated blank put zeros leBytes leNumber
+instant-counted = refl
+
+-- 19 for one more than the limit, which leaves the slot
+nineteen : number (moving 16777212) ≡ 19
+unfolding wouldPass totalIn ofBits whole inUnsigned toUnsigned addedBelow toBits ofInt following busy filled vacated blank put zeros leBytes leNumber
 nineteen = refl
 
-nineteen-leaves : lastNumberIn (memoryAfter (charged busy (forTwo 16777212) [] (called 0 blank []))) ≡ 3
-unfolding wouldPass totalIn ofBits whole inUnsigned toUnsigned addedBelow toBits ofInt busy filled vacated blank put zeros leBytes leNumber
+nineteen-leaves : lastNumberIn (memoryAfter (moving 16777212)) ≡ 3
+unfolding wouldPass totalIn ofBits whole inUnsigned toUnsigned addedBelow toBits ofInt following busy filled vacated blank put zeros leBytes leNumber
 nineteen-leaves = refl
 
--- ---- its record: the first instant has number 1, and a call turned down leaves the buffer
+-- the record: the first instant has number 1, and a call turned down leaves the buffers
 abbrev second : List (List ℕ) → List ℕ
 second [] = []
 second (b ∷ bs) = first bs
 
-numbered : numberIn (second (lentAfter (recorded 0 [] (called 0 blank [])))) ≡ 1
-unfolding following blank put zeros leBytes leNumber
+numbered : numberIn (second (lentAfter (byOutcome blank 0 [] [] (forTwo 0) (outcome 0 (stateRecord 1 5) [])))) ≡ 1
+unfolding wouldPass totalIn ofBits whole inUnsigned toUnsigned addedBelow toBits ofInt following busy filled vacated blank put zeros leBytes leNumber
 numbered = refl
 
-not-recorded : lentAfter (recorded 0 (77 ∷ []) (called 12 [] ((78 ∷ []) ∷ []))) ≡ (78 ∷ []) ∷ (77 ∷ []) ∷ []
+not-recorded : byOutcome [] 0 (78 ∷ []) (77 ∷ []) (forTwo 0) (outcome 12 [] []) ≡ called 12 [] ((78 ∷ []) ∷ (77 ∷ []) ∷ [])
 unfolding following put zeros leBytes leNumber
 not-recorded = refl
 

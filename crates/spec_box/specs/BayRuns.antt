@@ -4,7 +4,7 @@ use Prim.Native.Nat.{ℕ}
 use mathlib.Core.Path.{_≡_}
 use mathlib.Core.Logic.{_≢_}
 use mathlib.Core.Bool.{Bool, not, cond}
-use mathlib.Core.List.{List, [], _∷_, map}
+use mathlib.Core.List.{List, [], _∷_, map, foldr}
 use lib.ListN.{length}
 use lib.Dec.{eqb}
 use Rattle.spec_language.specs.Statement.{Statement}
@@ -23,7 +23,7 @@ use Rattle.spec_bay.specs.Called.{Called, number, memoryAfter, lentAfter, first
 use Rattle.spec_bay.specs.Stretch.{sequenceIn, readBackIn, serviceOnlyIn, stateIn, Terms, terms}
 use Rattle.spec_bay.specs.BayCalls.{delivering}
 use Rattle.spec_box.specs.Box.{stretchOf, Call, admit, release, restore, onTick}
-use Rattle.spec_box.specs.Lists.{Calling, Request, afterCall, boxAfter, overBay}
+use Rattle.spec_box.specs.Lists.{Calling, Request, afterCall, boxAfter, callsTo, calledAt}
 use Rattle.spec_box.specs.Shares.{Sendable}
 
 -- the paper knows no record: a record's buffer of another length is to it an answer buffer of another length
@@ -34,10 +34,12 @@ paperBuffer trace answer = cond (eqb (length trace) recordLength) answer []
 -- what is taken of each whose number counts, by the box, the call and what it comes to
 abbrev pub overTicks : {A : Type 0} → (counts : ℕ → Bool) → (taken : (box : List ℕ) (input : ℕ) (answer trace : List ℕ) → Called → A)
     → Calling → (bay : ℕ) → List ℕ → List Request → List A
-overTicks counts taken call bay =
-    overBay (λ box c rest.
-    onTick rest (λ e answer trace. cond (counts (number (call box bay c))) (taken box e answer trace (call box bay c) ∷ rest) rest) c)
-    call bay
+overTicks counts taken call bay box xs =
+    foldr (λ c rest.
+    onTick rest (λ e answer trace.
+    cond (counts (number (calledAt call bay c))) (taken (c .box) e answer trace (calledAt call bay c) ∷ rest) rest)
+    (c .call))
+    [] (callsTo (afterCall call) bay box xs)
 
 -- 'In a bay a call answered 19 is no instant', and leaves all as it was: it is no tick of the list; which
 -- ticks are answered 19 is Nineteen (Years)

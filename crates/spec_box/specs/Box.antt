@@ -42,45 +42,34 @@ pub data Call : Type 0 where
   ledger : (totals : List ℕ) → Call
   newYear : Call
 
--- ---- by the kind of a call: what is made of a tick, of an admission or of a new year, and what every other call comes to
-abbrev pub onTick : {A : Type 0} → (other : A) → ((input : ℕ) (answer trace : List ℕ) → A) → Call → A
-onTick other made (admit t) = other
-onTick other made release = other
-onTick other made (tick e answer trace) = made e answer trace
-onTick other made (save name) = other
-onTick other made (restore name) = other
-onTick other made (forget name) = other
-onTick other made (service trace view) = other
-onTick other made (panel trace view) = other
-onTick other made (preview e unknown buffer) = other
-onTick other made (ledger totals) = other
-onTick other made newYear = other
+-- ---- by the kind of a call: what is made of one kind, and what every other call comes to
+abbrev pub onAdmit {ℓ} : {A : Type ℓ} → (other : A) → (Terms → A) → Call → A
+onAdmit x f = elim [ admit t ↦ f t | release ↦ x | tick e a r ↦ x | save n ↦ x | restore n ↦ x | forget n ↦ x | service r v ↦ x | panel r v ↦ x | preview e u b ↦ x | ledger b ↦ x | newYear ↦ x ]
 
-abbrev pub onAdmit : {A : Type 0} → (other : A) → (Terms → A) → Call → A
-onAdmit other made (admit t) = made t
-onAdmit other made release = other
-onAdmit other made (tick e answer trace) = other
-onAdmit other made (save name) = other
-onAdmit other made (restore name) = other
-onAdmit other made (forget name) = other
-onAdmit other made (service trace view) = other
-onAdmit other made (panel trace view) = other
-onAdmit other made (preview e unknown buffer) = other
-onAdmit other made (ledger totals) = other
-onAdmit other made newYear = other
+abbrev pub onRelease {ℓ} : {A : Type ℓ} → (other : A) → A → Call → A
+onRelease x f = elim [ admit t ↦ x | release ↦ f | tick e a r ↦ x | save n ↦ x | restore n ↦ x | forget n ↦ x | service r v ↦ x | panel r v ↦ x | preview e u b ↦ x | ledger b ↦ x | newYear ↦ x ]
 
-abbrev pub onNewYear : {A : Type 0} → (other made : A) → Call → A
-onNewYear other made (admit t) = other
-onNewYear other made release = other
-onNewYear other made (tick e answer trace) = other
-onNewYear other made (save name) = other
-onNewYear other made (restore name) = other
-onNewYear other made (forget name) = other
-onNewYear other made (service trace view) = other
-onNewYear other made (panel trace view) = other
-onNewYear other made (preview e unknown buffer) = other
-onNewYear other made (ledger totals) = other
-onNewYear other made newYear = made
+abbrev pub onTick {ℓ} : {A : Type ℓ} → (other : A) → ((input : ℕ) (answer trace : List ℕ) → A) → Call → A
+onTick x f = elim [ admit t ↦ x | release ↦ x | tick e a r ↦ f e a r | save n ↦ x | restore n ↦ x | forget n ↦ x | service r v ↦ x | panel r v ↦ x | preview e u b ↦ x | ledger b ↦ x | newYear ↦ x ]
+
+abbrev pub onSave {ℓ} : {A : Type ℓ} → (other : A) → ((name : ℕ) → A) → Call → A
+onSave x f = elim [ admit t ↦ x | release ↦ x | tick e a r ↦ x | save n ↦ f n | restore n ↦ x | forget n ↦ x | service r v ↦ x | panel r v ↦ x | preview e u b ↦ x | ledger b ↦ x | newYear ↦ x ]
+
+abbrev pub onRestore {ℓ} : {A : Type ℓ} → (other : A) → ((name : ℕ) → A) → Call → A
+onRestore x f = elim [ admit t ↦ x | release ↦ x | tick e a r ↦ x | save n ↦ x | restore n ↦ f n | forget n ↦ x | service r v ↦ x | panel r v ↦ x | preview e u b ↦ x | ledger b ↦ x | newYear ↦ x ]
+
+abbrev pub onForget {ℓ} : {A : Type ℓ} → (other : A) → ((name : ℕ) → A) → Call → A
+onForget x f = elim [ admit t ↦ x | release ↦ x | tick e a r ↦ x | save n ↦ x | restore n ↦ x | forget n ↦ f n | service r v ↦ x | panel r v ↦ x | preview e u b ↦ x | ledger b ↦ x | newYear ↦ x ]
+
+abbrev pub onPreview {ℓ} : {A : Type ℓ} → (other : A) → ((input unknown : ℕ) (buffer : List ℕ) → A) → Call → A
+onPreview x f = elim [ admit t ↦ x | release ↦ x | tick e a r ↦ x | save n ↦ x | restore n ↦ x | forget n ↦ x | service r v ↦ x | panel r v ↦ x | preview e u b ↦ f e u b | ledger b ↦ x | newYear ↦ x ]
+
+abbrev pub onNewYear {ℓ} : {A : Type ℓ} → (other : A) → A → Call → A
+onNewYear x f = elim [ admit t ↦ x | release ↦ x | tick e a r ↦ x | save n ↦ x | restore n ↦ x | forget n ↦ x | service r v ↦ x | panel r v ↦ x | preview e u b ↦ x | ledger b ↦ x | newYear ↦ f ]
+
+-- the ledger's two calls
+abbrev pub onLedgers {ℓ} : {A : Type ℓ} → (other : A) → A → Call → A
+onLedgers x f = elim [ admit t ↦ x | release ↦ x | tick e a r ↦ x | save n ↦ x | restore n ↦ x | forget n ↦ x | service r v ↦ x | panel r v ↦ x | preview e u b ↦ x | ledger b ↦ f | newYear ↦ f ]
 
 -- the buffers that a call is lent for writing beside the box
 abbrev pub buffers : Call → List (List ℕ)
@@ -112,17 +101,7 @@ bayCall present newYear s = bayNewYearOf s
 
 -- a bay is there for the call: an empty one for an admission, a filled one for every other; 'The ledger's calls take an empty bay too'
 abbrev pub isFor : Call → List ℕ → Bool
-isFor (admit t) s = isEmpty s
-isFor release s = not (isEmpty s)
-isFor (tick e answer trace) s = not (isEmpty s)
-isFor (save name) s = not (isEmpty s)
-isFor (restore name) s = not (isEmpty s)
-isFor (forget name) s = not (isEmpty s)
-isFor (service trace view) s = not (isEmpty s)
-isFor (panel trace view) s = not (isEmpty s)
-isFor (preview e unknown buffer) s = not (isEmpty s)
-isFor (ledger totals) s = true
-isFor newYear s = true
+isFor c s = onAdmit (onLedgers (not (isEmpty s)) true c) (λ t. isEmpty s) c
 
 -- what a call makes of the bay's slot, put where the box has it
 abbrev pub inBox : (bay : ℕ) → List ℕ → Called → Called

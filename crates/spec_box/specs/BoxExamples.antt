@@ -20,7 +20,7 @@ use Rattle.spec_bay.specs.Called.{called, number}
 use Rattle.spec_bay.specs.Stretch.{stretchLength, partOf, vacated, terms, filled}
 use Rattle.spec_bay.specs.BayCalls.{bayAdmitOf}
 use Rattle.spec_box.specs.Box.{stretchOf, present, Call, admit, release, tick, restore, service, ledger, onTick, buffers, isFor, callOf}
-use Rattle.spec_box.specs.Lists.{Calling, Request, overBay, blanked}
+use Rattle.spec_box.specs.Lists.{Calling, Request, blanked, callsTo}
 use Rattle.spec_box.specs.BayRuns.{ticksTo, inputsIn, Stays, Onward}
 
 -- ends at once: ceiling 1
@@ -72,11 +72,11 @@ calls =
 
 -- ticks answered 0 are instants; one answered 19 is no tick; neither a reader nor another bay's tick counts
 instants-counted : inputsIn inputAsNumber 0 [] calls ≡ 0 ∷ []
-unfolding overBay
+unfolding callsTo
 instants-counted = refl
 
 ticks-counted : map (λ (c : Paper.Call). c .input) (ticksTo inputAsNumber 0 [] calls) ≡ 0 ∷ 12 ∷ []
-unfolding overBay
+unfolding callsTo
 ticks-counted = refl
 
 -- of the buffers of a tick the lengths count

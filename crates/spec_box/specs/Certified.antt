@@ -2,18 +2,16 @@
 -- ledger of a bay number says what the machines on paper delivered to each farm since that bay number's last new year.
 use Prim.Native.Nat.{ℕ, zero, suc, _+_, _≤_, _<_}
 use mathlib.Core.Path.{_≡_}
-use mathlib.Core.Bool.{cond}
 use mathlib.Core.Option.{Option, some, none}
 use mathlib.Core.List.{List, [], _∷_}
 use lib.ListN.{length}
-use lib.Dec.{eqb}
 use Rattle.spec_base.specs.Limits.{litresLimit}
 use Rattle.spec_base.specs.WholeLitres.{IsNumber, Near}
 use Rattle.spec_language.specs.States.{NoSetpause}
 use Rattle.spec_bay.specs.Ledgers.{farmCount, readingLength, fieldIn, readingFor, totalRead}
 use Rattle.spec_bay.specs.Called.{number, lentAfter, first}
 use Rattle.spec_box.specs.Box.{bayCount, emptyBox, Call, ledger, onTick, onNewYear}
-use Rattle.spec_box.specs.Lists.{Calling, Request, boxAfter}
+use Rattle.spec_box.specs.Lists.{Calling, Request, boxAfter, callsTo, inTurn}
 use Rattle.spec_box.specs.Shares.{AllSendable}
 use Rattle.spec_box.specs.Years.{sumOf}
 use Rattle.spec_box.specs.PaperBox.{BayMachine, byTerms, byLabelSets, PaperBay, PaperPlace, PaperBox, emptyPaper, Reported, ticked, replies, addsOn, paperCall}
@@ -36,12 +34,11 @@ module _ {S T R : Type 0} (m : BayMachine S T R) where
   abbrev pub deliveriesAfter : (farm : ℕ) → Call → Reported R → Option (PaperBay S T) → List ℕ → List ℕ
   deliveriesAfter f c o b ds = onTick (onNewYear ds [] c) (λ e answer trace. withDelivery o (delivery b e f) ds) c
 
-  -- over a list of calls, the latest first; a call to another bay number leaves them
+  -- over a list of calls, the latest first
   unfoldable pub deliveriesOver : (bay farm : ℕ) → PaperBox S T → List ℕ → List Request → List ℕ
-  deliveriesOver bay f box ds [] = ds
-  deliveriesOver bay f box ds (x ∷ xs) =
-      deliveriesOver bay f (paperCall m box (x .bay) (x .call) .1)
-      (cond (eqb (x .bay) bay) (deliveriesAfter f (x .call) (paperCall m box bay (x .call) .0) (box bay .bay) ds) ds) xs
+  deliveriesOver bay f box ds xs =
+      inTurn (λ c. deliveriesAfter f (c .call) (paperCall m (c .box) bay (c .call) .0) (c .box bay .bay)) ds
+      (callsTo (λ box x. paperCall m box (x .bay) (x .call) .1) bay box xs)
 
   -- the litres that a bay number delivered to a farm since its last new year, after a list of calls from the empty box
   abbrev pub deliveredOn : (bay : ℕ) → List Request → (farm : ℕ) → ℕ

@@ -10,7 +10,7 @@ use Rattle.spec_sequence.specs.Ceilings.{ceilingOf}
 use Rattle.spec_bay.specs.Called.{called, number, memoryAfter, lentAfter}
 use Rattle.spec_bay.specs.Stretch.{lengthIn, sequenceIn, readBackIn, ceilingIn, partOf, Terms}
 use Rattle.spec_bay.specs.BayCalls.{sharedCeiling}
-use Rattle.spec_box.specs.Box.{bayCount, boxLength, emptyBox, stretchOf, present, Call, admit, release, tick, save, restore, forget, service, panel, preview, ledger, newYear, buffers}
+use Rattle.spec_box.specs.Box.{bayCount, boxLength, emptyBox, stretchOf, present, Call, admit, release, onAdmit, onLedgers, buffers}
 use Rattle.spec_box.specs.Lists.{Calling, Request, boxAfter, asked, answers}
 use Rattle.spec_box.specs.Shares.{AllSendable, sumOfReactions, OneTickEach}
 use Rattle.spec_box.specs.BayRuns.{TermsFixed, TicksInBay}
@@ -90,17 +90,7 @@ GivesBack call box =
 -- '13, before all others, for a bay number above 7, one already filled on admission, or an empty one otherwise'; 'The ledger's calls take an
 -- empty bay too'
 abbrev pub NotThere : Call → List ℕ → Type 0
-NotThere (admit t) s = lengthIn s ≢ 0
-NotThere release s = lengthIn s ≡ 0
-NotThere (tick e answer trace) s = lengthIn s ≡ 0
-NotThere (save name) s = lengthIn s ≡ 0
-NotThere (restore name) s = lengthIn s ≡ 0
-NotThere (forget name) s = lengthIn s ≡ 0
-NotThere (service trace view) s = lengthIn s ≡ 0
-NotThere (panel trace view) s = lengthIn s ≡ 0
-NotThere (preview e unknown buffer) s = lengthIn s ≡ 0
-NotThere (ledger totals) s = ⊥
-NotThere newYear s = ⊥
+NotThere c s = onAdmit (onLedgers (lengthIn s ≡ 0) ⊥ c) (λ t. lengthIn s ≢ 0) c
 
 abbrev pub Thirteen : Calling → Type 0
 Thirteen call =

@@ -31,7 +31,7 @@ use Rattle.spec_bay.specs.Names.{find, without, saveNamed, forgetNamed}
 use Rattle.spec_bay.specs.Ledgers.{readingLength, totalsBytes, wouldPass}
 use Rattle.spec_bay.specs.Preview.{both, gathered, findings}
 use Rattle.spec_box.specs.Box.{Call, admit, release, tick, save, restore, forget, service, panel, preview, ledger, newYear}
-use Rattle.spec_box.specs.Lists.{Request}
+use Rattle.spec_box.specs.Lists.{Request, callsTo}
 use Rattle.spec_box.specs.PaperBox.{byTerms, byLabelSets, emptyPaper, InstantTold, told, Reported, ticked, replies, presentOn}
 use Rattle.spec_box.specs.Reports.{paperReports}
 use Rattle.spec_box.specs.Certified.{deliveriesOver, deliveredOn}
@@ -282,15 +282,15 @@ sinceAdmission =
     ∷ []
 
 delivered-since : (deliveredOn byTerms 3 sinceAdmission 2 ≡ 34) × (deliveredOn byTerms 3 sinceAdmission 1 ≡ 0) × (deliveredOn byTerms 2 sinceAdmission 2 ≡ 0)
-unfolding deliveriesOver sumOf paperReports presentOn find without saveNamed forgetNamed ordered totalsBytes toBits ofInt add wouldPass following deliveredBy ofBits whole inUnsigned toUnsigned leBytes leNumber checked read front commandOf distinct wellFormed before everyLabel labelsOf subset disjoint membersFrom declaredBy commands loopNesting signalNesting ceiling reactBy errorsBy reactionsBy none only member join insert remove
+unfolding deliveriesOver sumOf paperReports presentOn find without saveNamed forgetNamed ordered totalsBytes toBits ofInt add wouldPass following deliveredBy ofBits whole inUnsigned toUnsigned leBytes leNumber checked read front commandOf distinct wellFormed before everyLabel labelsOf subset disjoint membersFrom declaredBy commands loopNesting signalNesting ceiling reactBy errorsBy reactionsBy none only member join insert remove callsTo
 delivered-since = (refl, refl, refl)
 
 limit-delivered : deliveredOn byTerms 0 (to 0 (admitting fills 0 0) ∷ to 0 (instant 0) ∷ to 0 (instant 0) ∷ []) 2 ≡ 16777216
-unfolding deliveriesOver sumOf paperReports presentOn find without saveNamed forgetNamed ordered totalsBytes toBits ofInt add wouldPass following deliveredBy ofBits whole inUnsigned toUnsigned leBytes leNumber checked read front commandOf distinct wellFormed before everyLabel labelsOf subset disjoint membersFrom declaredBy commands loopNesting signalNesting ceiling reactBy errorsBy reactionsBy none only member join insert remove
+unfolding deliveriesOver sumOf paperReports presentOn find without saveNamed forgetNamed ordered totalsBytes toBits ofInt add wouldPass following deliveredBy ofBits whole inUnsigned toUnsigned leBytes leNumber checked read front commandOf distinct wellFormed before everyLabel labelsOf subset disjoint membersFrom declaredBy commands loopNesting signalNesting ceiling reactBy errorsBy reactionsBy none only member join insert remove callsTo
 limit-delivered = refl
 
 new-year-delivered : deliveredOn byTerms 0 (
     to 0 (admitting rinse 0 0) ∷ to 0 (instant 0) ∷ to 1 newYear ∷ to 0 newYear ∷ to 0 (instant 0) ∷ to 1 newYear ∷ []
     ) 2 ≡ 12
-unfolding deliveriesOver sumOf paperReports presentOn find without saveNamed forgetNamed ordered totalsBytes toBits ofInt add wouldPass following deliveredBy ofBits whole inUnsigned toUnsigned leBytes leNumber checked read front commandOf distinct wellFormed before everyLabel labelsOf subset disjoint membersFrom declaredBy commands loopNesting signalNesting ceiling reactBy errorsBy reactionsBy none only member join insert remove
+unfolding deliveriesOver sumOf paperReports presentOn find without saveNamed forgetNamed ordered totalsBytes toBits ofInt add wouldPass following deliveredBy ofBits whole inUnsigned toUnsigned leBytes leNumber checked read front commandOf distinct wellFormed before everyLabel labelsOf subset disjoint membersFrom declaredBy commands loopNesting signalNesting ceiling reactBy errorsBy reactionsBy none only member join insert remove callsTo
 new-year-delivered = refl

@@ -3,10 +3,8 @@
 use Prim.Native.Nat.{ℕ, _<_}
 use mathlib.Core.Path.{_≡_}
 use mathlib.Core.Logic.{_≢_, _↔_}
-use mathlib.Core.Bool.{_&&_, cond}
 use mathlib.Core.Option.{some, none}
-use mathlib.Core.List.{List, [], _∷_}
-use lib.Dec.{eqb}
+use mathlib.Core.List.{List, []}
 use Rattle.spec_language.specs.Statement.{Statement}
 use Rattle.spec_language.specs.States.{Valid}
 use Rattle.spec_language.specs.Expansion.{expand}
@@ -18,8 +16,8 @@ use Rattle.spec_bay.specs.Names.{Position, find, saveNamed, forgetNamed, positi
 use Rattle.spec_bay.specs.Table.{lookup, SixteenKnown}
 use Rattle.spec_bay.specs.Called.{number, memoryAfter}
 use Rattle.spec_bay.specs.Stretch.{stateAt, lengthIn, sequenceIn, stateIn, positionsIn, Terms}
-use Rattle.spec_box.specs.Box.{bayCount, emptyBox, stretchOf, Call, admit, release, tick, save, restore, forget, service, panel, preview, ledger, newYear}
-use Rattle.spec_box.specs.Lists.{Calling, Request, afterCall, boxAfter}
+use Rattle.spec_box.specs.Box.{bayCount, emptyBox, stretchOf, Call, admit, release, save, restore, forget, onRelease, onSave, onForget}
+use Rattle.spec_box.specs.Lists.{Calling, Request, afterCall, boxAfter, callsTo, inTurn, ifAnswered}
 use Rattle.spec_box.specs.Shares.{Sendable, AllSendable}
 use Rattle.spec_box.specs.BayRuns.{NotTakenOut, Onwards, RunOf, Rewrites}
 use Rattle.spec_box.specs.Claims.{InBoxes}
@@ -27,27 +25,14 @@ use Rattle.spec_box.specs.Claims.{InBoxes}
 -- ---- by name
 -- what a call answered 0 makes of them, the machine having these labels
 abbrev pub changedBy : Call → (labels : ℕ) → List (Position ℕ) → List (Position ℕ)
-changedBy (admit t) labels ps = ps
-changedBy release labels ps = []
-changedBy (tick e answer trace) labels ps = ps
-changedBy (save name) labels ps = positionsAfter (saveNamed name labels ps)
-changedBy (restore name) labels ps = ps
-changedBy (forget name) labels ps = positionsAfter (forgetNamed name ps)
-changedBy (service trace view) labels ps = ps
-changedBy (panel trace view) labels ps = ps
-changedBy (preview e unknown buffer) labels ps = ps
-changedBy (ledger totals) labels ps = ps
-changedBy newYear labels ps = ps
+changedBy c labels ps =
+    onSave (onForget (onRelease ps [] c) (λ name. positionsAfter (forgetNamed name ps)) c)
+    (λ name. positionsAfter (saveNamed name labels ps)) c
 
--- a call that is turned down leaves them, and so does one to another bay
+-- over a list of calls
 unfoldable pub savedIn : Calling → (bay : ℕ) → List ℕ → List (Position ℕ) → List Request → List (Position ℕ)
-savedIn call bay box ps [] = ps
-savedIn call bay box ps (x ∷ xs) =
-    savedIn call bay (afterCall call box x)
-    (cond (eqb (x .bay) bay && eqb (number (call box bay (x .call))) 0)
-    (changedBy (x .call) (labelsIn (stateIn (stretchOf bay box))) ps)
-    ps)
-    xs
+savedIn call bay box ps xs =
+    inTurn (ifAnswered call bay (λ c. changedBy (c .call) (labelsIn (stateIn (stretchOf bay (c .box)))))) ps (callsTo (afterCall call) bay box xs)
 
 -- each position held is the label set that the machine had when it was last saved under that name
 abbrev pub PositionsSaved : Calling → Type 0

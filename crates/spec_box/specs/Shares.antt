@@ -7,22 +7,13 @@ use lib.Dec.{eqb}
 use Rattle.spec_base.specs.Limits.{signalBytes, nameBytes}
 use Rattle.spec_tick.specs.AnswerRecord.{reactionsIn}
 use Rattle.spec_bay.specs.Called.{Called, number, lentAfter, first}
-use Rattle.spec_box.specs.Box.{Call, admit, release, tick, save, restore, forget, service, panel, preview, ledger, newYear}
+use Rattle.spec_box.specs.Box.{Call, tick, onAdmit, onSave}
 use Rattle.spec_box.specs.Lists.{Calling, Request, afterCall}
 
 -- sets are of 32 signals and a name has 32 bits, as the types of the arguments have it
 abbrev pub Sendable : Call → Type 0
-Sendable (admit t) = (t .readBack < 256 ^ signalBytes) × (t .serviceOnly < 256 ^ signalBytes)
-Sendable release = Unit {0}
-Sendable (tick e answer trace) = Unit {0}
-Sendable (save name) = name < 256 ^ nameBytes
-Sendable (restore name) = Unit {0}
-Sendable (forget name) = Unit {0}
-Sendable (service trace view) = Unit {0}
-Sendable (panel trace view) = Unit {0}
-Sendable (preview e unknown buffer) = Unit {0}
-Sendable (ledger totals) = Unit {0}
-Sendable newYear = Unit {0}
+Sendable c =
+    onAdmit (onSave (Unit {0}) (λ name. name < 256 ^ nameBytes) c) (λ t. (t .readBack < 256 ^ signalBytes) × (t .serviceOnly < 256 ^ signalBytes)) c
 
 pub data AllSendable : List Request → Type 0 where
   none : AllSendable []

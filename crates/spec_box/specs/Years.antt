@@ -3,10 +3,9 @@
 use Prim.Native.Nat.{ℕ, _+_, _≤_, _<_}
 use mathlib.Core.Path.{_≡_}
 use mathlib.Core.Logic.{_≢_, _↔_}
-use mathlib.Core.Bool.{true, _&&_, cond}
+use mathlib.Core.Bool.{true}
 use mathlib.Core.List.{List, [], _∷_}
 use lib.ListN.{length}
-use lib.Dec.{eqb}
 use Rattle.spec_base.specs.Limits.{litresLimit}
 use Rattle.spec_base.specs.WholeLitres.{whole, Near}
 use Rattle.spec_bay.specs.Ledgers as Ledgers
@@ -17,7 +16,7 @@ use Rattle.spec_bay.specs.Called.{called, number, memoryAfter}
 use Rattle.spec_bay.specs.Stretch.{lengthIn, sequenceIn, readBackIn, stateIn, ledgerIn, withLedger}
 use Rattle.spec_bay.specs.BayCalls.{delivering}
 use Rattle.spec_box.specs.Box.{bayCount, boxLength, emptyBox, stretchOf, Call, tick, preview, ledger, newYear, onTick, onNewYear}
-use Rattle.spec_box.specs.Lists.{Calling, Request, afterCall, boxAfter}
+use Rattle.spec_box.specs.Lists.{Calling, Request, afterCall, boxAfter, callsTo, inTurn, ifAnswered}
 use Rattle.spec_box.specs.BayRuns.{paperBuffer, TicksInBay}
 use Rattle.spec_box.specs.Positions.{TicksFromPosition}
 
@@ -27,13 +26,10 @@ use Rattle.spec_box.specs.Positions.{TicksFromPosition}
 abbrev pub deliveredAfter : (farm : ℕ) → Call → (s : List ℕ) (sum : ℕ) → ℕ
 deliveredAfter f c s sum = onTick (onNewYear sum 0 c) (λ e answer trace. sum + delivering s e f) c
 
--- over a list of calls; one that is turned down leaves them, and so does one to another bay
+-- over a list of calls
 unfoldable pub deliveredSince : Calling → (bay farm : ℕ) → List ℕ → (sum : ℕ) → List Request → ℕ
-deliveredSince call bay f box sum [] = sum
-deliveredSince call bay f box sum (x ∷ xs) =
-    deliveredSince call bay f (afterCall call box x)
-    (cond (eqb (x .bay) bay && eqb (number (call box bay (x .call))) 0) (deliveredAfter f (x .call) (stretchOf bay box) sum) sum)
-    xs
+deliveredSince call bay f box sum xs =
+    inTurn (ifAnswered call bay (λ c. deliveredAfter f (c .call) (stretchOf bay (c .box)))) sum (callsTo (afterCall call) bay box xs)
 
 -- a list of calls without a new year of the bay number
 pub data SameYear (bay : ℕ) : List Request → Type 0 where

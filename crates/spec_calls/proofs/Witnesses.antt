@@ -42,8 +42,8 @@ use Rattle.spec_bay.specs.Table.{place, lookup, saveOf, forgetOf}
 use Rattle.spec_bay.specs.Ledgers.{readingLength, totalIn, totalsBytes, wouldPass, addedBelow}
 use Rattle.spec_bay.specs.Preview.{previewLength, both, gathered, findings, previewOf}
 use Rattle.spec_bay.specs.Stretch.{stateAt, partOf, vacated, terms, filled}
-use Rattle.spec_bay.specs.BayCalls.{bayStepOf, bayChargedOf, bayTickOf, bayReleaseOf, bayAdmitOf, baySaveOf, bayForgetOf, bayRestoreOf, bayServiceOf, bayPanelOf, bayPreviewOf, bayLedgerOf, bayNewYearOf}
-use Rattle.spec_box.specs.Box.{boxLength, emptyBox, present, Call, admit, release, tick, save, restore, forget, service, panel, preview, ledger, newYear, callOf}
+use Rattle.spec_bay.specs.BayCalls.{bayTickOf, bayReleaseOf, bayAdmitOf, baySaveOf, bayForgetOf, bayRestoreOf, bayServiceOf, bayPanelOf, bayPreviewOf, bayLedgerOf, bayNewYearOf}
+use Rattle.spec_box.specs.Box.{boxLength, emptyBox, present, Call, admit, release, tick, save, restore, forget, service, panel, preview, ledger, newYear, onAdmit, onSave, callOf}
 use Rattle.spec_box.specs.Lists.{Request, boxAfter}
 use Rattle.spec_box.specs.Shares as Shares
 use Rattle.spec_box.specs.Shares.{Sendable, AllSendable, each}
@@ -88,17 +88,9 @@ trace = replicate recordLength 0
 
 -- ---- boxes that calls reach
 unfoldable pub sent : Call → Bool
-sent (admit t) = ltb (t .readBack) (256 ^ signalBytes) && ltb (t .serviceOnly) (256 ^ signalBytes)
-sent release = true
-sent (tick e a b) = true
-sent (save name) = ltb name (256 ^ nameBytes)
-sent (restore name) = true
-sent (forget name) = true
-sent (service a view) = true
-sent (panel a view) = true
-sent (preview e u buffer) = true
-sent (ledger totals) = true
-sent newYear = true
+sent c =
+    onAdmit (onSave true (λ name. ltb name (256 ^ nameBytes)) c)
+    (λ t. ltb (t .readBack) (256 ^ signalBytes) && ltb (t .serviceOnly) (256 ^ signalBytes)) c
 
 is-sent : (c : Call) → sent c ≡ true → Sendable c
 unfolding sent
@@ -227,7 +219,7 @@ witnesses intake-box-ledger =
 witnesses intake-box-new-year = beginsYear fromStart 0 ∷ beginsYear fromStart 8 ∷ []
 
 pub all-given : (name : CallName) → map (callGives reachedBytes) (witnesses name) ≡ map some (rowFor name)
-unfolding witnesses fromStart fresh over overfull waiting named full reached unrollOf copied unrolled bytesOf depthOf replayOf placeOf firstDifference same firstRecords recordsFrom boxAfter callOf emptyBox present partOf vacated filled bayStepOf bayChargedOf wouldPass totalIn addedBelow deliveredBy ofBits ofFields odd whole inUnsigned toUnsigned bayTickOf following bayReleaseOf bayAdmitOf baySaveOf bayForgetOf bayRestoreOf bayServiceOf bayPanelOf panelOf bayPreviewOf previewOf findings gathered both subsetsBelow common difference allBelow bayLedgerOf bayNewYearOf totalsBytes toBits ofInt saveOf forgetOf lookup place put zeros leBytes leNumber tickBy checkOf checked read front commandOf distinct wellFormed before everyLabel labelsOf subset disjoint valid active activeLabels membersFrom declaredBy commands loopNesting signalNesting ceiling encodeState decodeState encodeAnswer expand reactBy errorsBy reactionsBy Sets.none only member join insert remove
+unfolding witnesses fromStart fresh over overfull waiting named full reached unrollOf copied unrolled bytesOf depthOf replayOf placeOf firstDifference same firstRecords recordsFrom boxAfter callOf emptyBox present partOf vacated filled wouldPass totalIn addedBelow deliveredBy ofBits ofFields odd whole inUnsigned toUnsigned bayTickOf following bayReleaseOf bayAdmitOf baySaveOf bayForgetOf bayRestoreOf bayServiceOf bayPanelOf panelOf bayPreviewOf previewOf findings gathered both subsetsBelow common difference allBelow bayLedgerOf bayNewYearOf totalsBytes toBits ofInt saveOf forgetOf lookup place put zeros leBytes leNumber tickBy checkOf checked read front commandOf distinct wellFormed before everyLabel labelsOf subset disjoint valid active activeLabels membersFrom declaredBy commands loopNesting signalNesting ceiling encodeState decodeState encodeAnswer expand reactBy errorsBy reactionsBy Sets.none only member join insert remove
 all-given intake-check = refl
 all-given intake-ceiling = refl
 all-given intake-tick = refl
@@ -246,7 +238,7 @@ all-given intake-box-ledger = refl
 all-given intake-box-new-year = refl
 
 pub all-passable : (name : CallName) → map (passable reachedBytes) (witnesses name) ≡ map (λ (n : ℕ). true) (rowFor name)
-unfolding witnesses fromStart fresh over overfull waiting named full reached unrollOf copied unrolled bytesOf depthOf replayOf placeOf firstDifference same firstRecords recordsFrom boxAfter callOf emptyBox present partOf vacated filled bayStepOf bayChargedOf wouldPass totalIn addedBelow deliveredBy ofBits ofFields odd whole inUnsigned toUnsigned bayTickOf following bayReleaseOf bayAdmitOf baySaveOf bayForgetOf bayRestoreOf bayServiceOf bayPanelOf panelOf bayPreviewOf previewOf findings gathered both subsetsBelow common difference allBelow bayLedgerOf bayNewYearOf totalsBytes toBits ofInt saveOf forgetOf lookup place put zeros leBytes leNumber tickBy checkOf checked read front commandOf distinct wellFormed before everyLabel labelsOf subset disjoint valid active activeLabels membersFrom declaredBy commands loopNesting signalNesting ceiling encodeState decodeState encodeAnswer expand reactBy errorsBy reactionsBy Sets.none only member join insert remove
+unfolding witnesses fromStart fresh over overfull waiting named full reached unrollOf copied unrolled bytesOf depthOf replayOf placeOf firstDifference same firstRecords recordsFrom boxAfter callOf emptyBox present partOf vacated filled wouldPass totalIn addedBelow deliveredBy ofBits ofFields odd whole inUnsigned toUnsigned bayTickOf following bayReleaseOf bayAdmitOf baySaveOf bayForgetOf bayRestoreOf bayServiceOf bayPanelOf panelOf bayPreviewOf previewOf findings gathered both subsetsBelow common difference allBelow bayLedgerOf bayNewYearOf totalsBytes toBits ofInt saveOf forgetOf lookup place put zeros leBytes leNumber tickBy checkOf checked read front commandOf distinct wellFormed before everyLabel labelsOf subset disjoint valid active activeLabels membersFrom declaredBy commands loopNesting signalNesting ceiling encodeState decodeState encodeAnswer expand reactBy errorsBy reactionsBy Sets.none only member join insert remove
 all-passable intake-check = refl
 all-passable intake-ceiling = refl
 all-passable intake-tick = refl
@@ -305,7 +297,7 @@ anyWitnesses intake-box-ledger = []
 anyWitnesses intake-box-new-year = beginsYear [] 0 ∷ []
 
 pub any-given : (name : CallName) → map (callGives (λ (box : List ℕ). box)) (anyWitnesses name) ≡ map some (alsoAnywhere name)
-unfolding anyWitnesses holding unrollOf copied unrolled bytesOf depthOf replayOf placeOf firstDifference same firstRecords recordsFrom boxAfter callOf emptyBox present partOf vacated filled bayStepOf bayChargedOf wouldPass totalIn addedBelow deliveredBy ofBits ofFields odd whole inUnsigned toUnsigned bayTickOf following bayReleaseOf bayAdmitOf baySaveOf bayForgetOf bayRestoreOf bayServiceOf bayPanelOf panelOf bayPreviewOf previewOf findings gathered both subsetsBelow common difference allBelow bayLedgerOf bayNewYearOf totalsBytes toBits ofInt saveOf forgetOf lookup place put zeros leBytes leNumber tickBy checkOf checked read front commandOf distinct wellFormed before everyLabel labelsOf subset disjoint valid active activeLabels membersFrom declaredBy commands loopNesting signalNesting ceiling encodeState decodeState encodeAnswer expand reactBy errorsBy reactionsBy Sets.none only member join insert remove
+unfolding anyWitnesses holding unrollOf copied unrolled bytesOf depthOf replayOf placeOf firstDifference same firstRecords recordsFrom boxAfter callOf emptyBox present partOf vacated filled wouldPass totalIn addedBelow deliveredBy ofBits ofFields odd whole inUnsigned toUnsigned bayTickOf following bayReleaseOf bayAdmitOf baySaveOf bayForgetOf bayRestoreOf bayServiceOf bayPanelOf panelOf bayPreviewOf previewOf findings gathered both subsetsBelow common difference allBelow bayLedgerOf bayNewYearOf totalsBytes toBits ofInt saveOf forgetOf lookup place put zeros leBytes leNumber tickBy checkOf checked read front commandOf distinct wellFormed before everyLabel labelsOf subset disjoint valid active activeLabels membersFrom declaredBy commands loopNesting signalNesting ceiling encodeState decodeState encodeAnswer expand reactBy errorsBy reactionsBy Sets.none only member join insert remove
 any-given intake-check = refl
 any-given intake-ceiling = refl
 any-given intake-tick = refl
@@ -324,7 +316,7 @@ any-given intake-box-ledger = refl
 any-given intake-box-new-year = refl
 
 pub any-passable : (name : CallName) → map (passable (λ (box : List ℕ). box)) (anyWitnesses name) ≡ map (λ (n : ℕ). true) (alsoAnywhere name)
-unfolding anyWitnesses holding unrollOf copied unrolled bytesOf depthOf replayOf placeOf firstDifference same firstRecords recordsFrom boxAfter callOf emptyBox present partOf vacated filled bayStepOf bayChargedOf wouldPass totalIn addedBelow deliveredBy ofBits ofFields odd whole inUnsigned toUnsigned bayTickOf following bayReleaseOf bayAdmitOf baySaveOf bayForgetOf bayRestoreOf bayServiceOf bayPanelOf panelOf bayPreviewOf previewOf findings gathered both subsetsBelow common difference allBelow bayLedgerOf bayNewYearOf totalsBytes toBits ofInt saveOf forgetOf lookup place put zeros leBytes leNumber tickBy checkOf checked read front commandOf distinct wellFormed before everyLabel labelsOf subset disjoint valid active activeLabels membersFrom declaredBy commands loopNesting signalNesting ceiling encodeState decodeState encodeAnswer expand reactBy errorsBy reactionsBy Sets.none only member join insert remove
+unfolding anyWitnesses holding unrollOf copied unrolled bytesOf depthOf replayOf placeOf firstDifference same firstRecords recordsFrom boxAfter callOf emptyBox present partOf vacated filled wouldPass totalIn addedBelow deliveredBy ofBits ofFields odd whole inUnsigned toUnsigned bayTickOf following bayReleaseOf bayAdmitOf baySaveOf bayForgetOf bayRestoreOf bayServiceOf bayPanelOf panelOf bayPreviewOf previewOf findings gathered both subsetsBelow common difference allBelow bayLedgerOf bayNewYearOf totalsBytes toBits ofInt saveOf forgetOf lookup place put zeros leBytes leNumber tickBy checkOf checked read front commandOf distinct wellFormed before everyLabel labelsOf subset disjoint valid active activeLabels membersFrom declaredBy commands loopNesting signalNesting ceiling encodeState decodeState encodeAnswer expand reactBy errorsBy reactionsBy Sets.none only member join insert remove
 any-passable intake-check = refl
 any-passable intake-ceiling = refl
 any-passable intake-tick = refl

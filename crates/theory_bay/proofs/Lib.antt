@@ -5,3 +5,4 @@ pub mod Gathering
 pub mod Groups
 pub mod Numbers
 pub mod Theorems
+pub mod Ticking

@@ -40,7 +40,7 @@ use Rattle.spec_bay.specs.Called.{Called, called, number, memoryAfter, lentAfte
 use Rattle.spec_bay.specs.Stretch.{positionsAt, stretchLength, isEmpty, stateIn, Terms}
 use Rattle.spec_bay.specs.BayCalls.{delivering, bayTickOf, bayAdmitOf}
 use Rattle.spec_box.specs.Box.{bayCount, boxLength, stretchOf, present, Call, admit, release, tick, save, restore, forget, service, panel, preview, ledger, newYear, onTick, callOf}
-use Rattle.spec_box.specs.Lists.{Request, afterCall, boxAfter, overBay}
+use Rattle.spec_box.specs.Lists.{Request, afterCall, boxAfter, callsTo}
 use Rattle.spec_box.specs.Shares.{Sendable}
 use Rattle.spec_box.specs.BayRuns.{paperBuffer, ticksTo, outcomeOf, tickOutcomes, tickLitres, instantsIn, inputsIn, Onward, Onwards, done, more, RunOf, RewritesAs, Rewrites}
 use Rattle.theory_bay.proofs.Fields.{Holds}
@@ -211,7 +211,7 @@ module _ (bay : ℕ) (b : bay < bayCount) (t : Terms) where
     pub input : inputsIn callOf bay box (x ∷ xs) ≡ inputsIn callOf bay (afterCall callOf box x) xs
 
   other-aside : (box : List ℕ) (x : Request) (xs : List Request) → x .bay ≢ bay → Aside box x xs
-  unfolding overBay
+  unfolding callsTo
   other-aside box x xs q =
       let e = ne-eqb (x .bay) bay q in record { outcome = rw e; tick = rw e; litres = λ f. rw e; instant = rw e; input = rw e }
 
@@ -220,7 +220,7 @@ module _ (bay : ℕ) (b : bay < bayCount) (t : Terms) where
   NoTick c = (A : Type 0) (rest : A) (made : (e : ℕ) (answer trace : List ℕ) → A) → onTick rest made c ≡ rest
 
   own-aside : (box : List ℕ) (c : Call) (xs : List Request) → NoTick c → Aside box (record { bay = bay; call = c }) xs
-  unfolding overBay
+  unfolding callsTo
   own-aside box c xs q =
       let e = eq-eqb bay bay refl in
       record {
@@ -234,7 +234,7 @@ module _ (bay : ℕ) (b : bay < bayCount) (t : Terms) where
   -- a tick that the ledger turns down
   full-aside : (box : List ℕ) (e : ℕ) (answer trace : List ℕ) (xs : List Request) → number (callOf box bay (tick e answer trace)) ≡ 19
       → Aside box (record { bay = bay; call = tick e answer trace }) xs
-  unfolding overBay
+  unfolding callsTo
   full-aside box e answer trace xs n =
       let same = eq-eqb bay bay refl in
       let full = eq-eqb (number (callOf box bay (tick e answer trace))) 19 n in
@@ -283,7 +283,7 @@ module _ (bay : ℕ) (b : bay < bayCount) (t : Terms) where
     -- its instant, if it is one, and those behind it
     instants-from : Run after xs
         → instantsIn callOf bay box (c ∷ xs) ≡ From (stateIn (stretchOf bay box)) (map callOn (inputsIn callOf bay box (c ∷ xs)))
-    unfolding overBay outcomes
+    unfolding callsTo outcomes
     instants-from k =
         elim (ℕ-discrete (number (callOf box bay (tick e answer trace))) 0) [
           | yes n ↦
@@ -297,7 +297,7 @@ module _ (bay : ℕ) (b : bay < bayCount) (t : Terms) where
         ]
 
     tick-run : (Here after → Run after xs) → Run box (c ∷ xs)
-    unfolding boxAfter overBay outcomes delivered
+    unfolding boxAfter callsTo outcomes delivered
     tick-run r =
         let k = r (tick-here box h e answer trace) in
         let first = as-told box h e answer trace d in
@@ -366,7 +366,7 @@ module _ (bay : ℕ) (b : bay < bayCount) (t : Terms) where
       (λ A rest made. refl) r
 
   pub runs : (box : List ℕ) → Here box → (xs : List Request) → Onwards callOf bay box xs → Run box xs
-  unfolding overBay outcomes delivered boxAfter
+  unfolding callsTo outcomes delivered boxAfter
   runs box h [] done =
       record { told = record { ticks = refl; litres = λ f. refl; instants = refl }; never-11 = λ o m. absurd (List·Memᴰ·not-nil m); stands = h }
   runs box h (x ∷ xs) (more n k) =

@@ -34,7 +34,7 @@ use Rattle.spec_bay.specs.BayCalls.{delivering, bayTickOf, bayAdmitOf, bayResto
 use Rattle.spec_box.specs.BayRuns.{inputsIn, Stays, NotTakenOut, Onward, Onwards, termsIn}
 use Rattle.spec_box.specs.BayRuns as Runs
 use Rattle.spec_box.specs.Box.{bayCount, boxLength, stretchOf, present, Call, admit, release, tick, save, restore, forget, service, panel, preview, ledger, newYear, bayCall, callOf}
-use Rattle.spec_box.specs.Lists.{Request, afterCall, boxAfter, overBay}
+use Rattle.spec_box.specs.Lists.{Request, afterCall, boxAfter, callsTo}
 use Rattle.spec_box.specs.Instants.{second, recordsIn, RecordIs, ServiceShows, PanelShows, PanelsAlike, ReaderNumbers, RecordLength}
 use Rattle.spec_box.specs.Shares.{Sendable}
 use Rattle.theory_bay.proofs.Fields.{Holds, behind-holds, moved-holds, filled-zeros}
@@ -236,7 +236,7 @@ module _ (bay : ℕ) (b : bay < bayCount) (t : Terms) (a : Accepted (t .sequence
     instant-over : (e : ℕ) (answer trace : List ℕ) (n : number (callOf box bay (tick e answer trace)) ≡ 0) (xs : List Request)
         → (Here (memoryAfter (callOf box bay (tick e answer trace))) → Over (memoryAfter (callOf box bay (tick e answer trace))) xs)
         → Over box (record { bay = bay; call = tick e answer trace } ∷ xs)
-    unfolding boxAfter overBay
+    unfolding boxAfter callsTo
     instant-over e answer trace n xs f =
         let i = instant-of box bay e answer trace n in
         let l : length (leBytes numberBytes (following (lastNumberIn s))) ≡ numberBytes = length-leBytes numberBytes (following (lastNumberIn s)) in
@@ -281,7 +281,7 @@ module _ (bay : ℕ) (b : bay < bayCount) (t : Terms) (a : Accepted (t .sequence
 
     own-over : (c : Call) (xs : List Request) → Stays c (callOf box bay c)
         → (Here (memoryAfter (callOf box bay c)) → Over (memoryAfter (callOf box bay c)) xs) → Over box (record { bay = bay; call = c } ∷ xs)
-    unfolding overBay
+    unfolding callsTo
     own-over (admit t′) xs n f =
         quiet-over box h (record { bay = bay; call = admit t′ }) xs (Unit {0}) (same (Unit {0}) (refused-stretch box bay (admit t′) (filled-already box bay b (h .sized-box) there t′))) (λ g. tt)
         (rw (eq-eqb bay bay refl)) (rw (eq-eqb bay bay refl)) f
@@ -337,7 +337,7 @@ module _ (bay : ℕ) (b : bay < bayCount) (t : Terms) (a : Accepted (t .sequence
         (rw (eq-eqb bay bay refl)) (rw (eq-eqb bay bay refl)) f
 
   pub over : (box : List ℕ) → Here box → (xs : List Request) → NotTakenOut callOf bay box xs → Over box xs
-  unfolding overBay recordsFrom boxAfter
+  unfolding callsTo recordsFrom boxAfter
   over box h [] Runs.NotTakenOut.done = record { numbered = λ i r w. absurd (Option·none-ne-some r w); recorded = λ o. refl; held = h .holds }
   over box h (x ∷ xs) (Runs.NotTakenOut.more n k) =
       elim (ℕ-discrete (x .bay) bay) [

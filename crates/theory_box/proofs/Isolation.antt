@@ -10,11 +10,13 @@ use mathlib.Core.List.{List, [], _∷_}
 use lib.ListN.{length}
 use lib.Dec.{eqb, leb}
 use borrow.Author.Tests.{eq-eqb, ne-eqb}
-use Rattle.spec_base.specs.Limits.{signalCount}
+use Rattle.spec_base.specs.Limits.{signalCount, numberBytes}
+use Rattle.spec_base.specs.Bytes.{leBytes}
 use Rattle.spec_base.specs.Sets.{difference, membersFrom}
 use Rattle.spec_tick.specs.StateRecord.{stateLength}
 use Rattle.spec_tick.specs.AnswerRecord.{answerLength}
-use Rattle.spec_tick.specs.Record.{recordLength, panelLength, panelOf}
+use Rattle.spec_tick.specs.Record.{recordLength, recordOf, panelLength, panelOf}
+use Rattle.spec_tick.specs.Recording.{following}
 use Rattle.spec_base.specs.Parts.{put, zeros}
 use Rattle.numbers.proofs.Zeros.{length-zeros}
 use Rattle.spec_tick.specs.Tick.{Outcome, outcome, Reply, refused, reacts, replyOf, replied, tickBy, tickOf}
@@ -25,10 +27,10 @@ use Rattle.spec_bay.specs.Preview.{Previewed, previewed, byReply, answersOf, ma
 use Rattle.theory_bay.proofs.Numbers as numbers
 use Rattle.spec_bay.specs.Ledgers.{readingLength, passes, added, readingOf}
 use Rattle.spec_bay.specs.Called.{Called, called, number, memoryAfter, lentAfter}
-use Rattle.spec_bay.specs.Stretch.{stateAt, sequenceIn, readBackIn, serviceOnlyIn, stateIn, ledgerIn, withLedger}
-use Rattle.spec_bay.specs.BayCalls.{stateKept, delivering, charged, recorded, bayStepOf, bayChargedOf, bayTickOf, bayServiceOf, bayPanelOf, stretchKept, bayPreviewOf, bayLedgerOf}
+use Rattle.spec_bay.specs.Stretch.{stateAt, countAt, sequenceIn, readBackIn, serviceOnlyIn, stateIn, lastNumberIn, ledgerIn, withLedger}
+use Rattle.spec_bay.specs.BayCalls.{delivering, byOutcome, bayTickOf, bayServiceOf, bayPanelOf, stretchKept, bayPreviewOf, bayLedgerOf}
 use Rattle.spec_box.specs.Box.{bayCount, boxLength, stretchOf, present, Call, admit, release, tick, save, restore, forget, service, panel, preview, ledger, newYear, isFor, callOf}
-use Rattle.spec_box.specs.Lists.{Request, afterCall, boxAfter, overBay, blanked, Asked, admission, other, askedBy, asked, Answer, answered, answerOf, answers}
+use Rattle.spec_box.specs.Lists.{Request, afterCall, boxAfter, blanked, Asked, admission, other, askedBy, asked, Answer, answered, answerOf, answers, callsTo}
 use Rattle.spec_box.specs.Claims.{SumAlike}
 use Rattle.theory_box.proofs.Bays.{onStretch, admittedAs, admission-by-number}
 use Rattle.theory_box.proofs.BayRuns.{blank-alike}
@@ -71,34 +73,40 @@ module _ (s : List ℕ) (e : ℕ) (answer answer′ trace trace′ : List ℕ) w
   abbrev x : ℕ → ℕ
   x = delivering s e
 
-  kept-alike : (o o′ : Outcome) → TicksAlike o o′ → (demands.number o ≡ 0 → o ≡ o′)
-      → Alike (recorded e trace (charged s (delivering s e) answer (stateKept s o))) (recorded e trace′ (charged s (delivering s e) answer′ (stateKept s o′)))
-  kept-alike (outcome zero state left) o′ t h =
-      subst (λ (o : Outcome). Alike (recorded e trace (charged s x answer (stateKept s (outcome zero state left)))) (recorded e trace′ (charged s x answer′ (stateKept s o))))
-      (h refl) (go (passes (ledgerIn s) x))
+  by-outcome : (o o′ : Outcome) → TicksAlike o o′ → (demands.number o ≡ 0 → o ≡ o′)
+      → Alike (byOutcome s e answer trace (delivering s e) o) (byOutcome s e answer′ trace′ (delivering s e) o′)
+  by-outcome (outcome zero state left) o′ t h =
+      subst (λ (o : Outcome). Alike (byOutcome s e answer trace x (outcome zero state left)) (byOutcome s e answer′ trace′ x o)) (h refl)
+      (go (passes (ledgerIn s) x))
     where
-      go : (c : Bool) → Alike (recorded e trace (cond c (called 19 s (answer ∷ [])) (called 0 (withLedger (added (delivering s e) (ledgerIn s)) (put stateAt stateLength state s)) (left ∷ []))))
-          (recorded e trace′ (cond c (called 19 s (answer′ ∷ [])) (called 0 (withLedger (added (delivering s e) (ledgerIn s)) (put stateAt stateLength state s)) (left ∷ []))))
+      after : List ℕ
+      after =
+          put countAt numberBytes (leBytes numberBytes (following (lastNumberIn s)))
+          (withLedger (added (delivering s e) (ledgerIn s)) (put stateAt stateLength state s))
+
+      lent : List (List ℕ)
+      lent = left ∷ recordOf (following (lastNumberIn s)) e left state ∷ []
+
+      go : (c : Bool) → Alike (cond c (called 19 s (answer ∷ trace ∷ [])) (called 0 after lent)) (cond c (called 19 s (answer′ ∷ trace′ ∷ [])) (called 0 after lent))
       go true = turned 18 s (answer ∷ trace ∷ []) (answer′ ∷ trace′ ∷ [])
       go false = same
-  kept-alike (outcome (suc n) state left) (outcome zero state′ left′) t h = absurd (omega (arith, t .number-alike))
-  kept-alike (outcome (suc n) state left) (outcome (suc m) state′ left′) t h =
-      record {
-        numbers = t .number-alike;
-        memories = ap (λ (st : List ℕ). put stateAt stateLength st s) (t .state-alike);
-        lent = λ z. absurd (omega arith);
-      }
+  by-outcome (outcome (suc n) state left) (outcome zero state′ left′) t h = absurd (omega (arith, t .number-alike))
+  by-outcome (outcome (suc n) state left) (outcome (suc m) state′ left′) t h =
+      record { numbers = t .number-alike; memories = refl; lent = λ z. absurd (omega arith) }
 
   tick-alike : length answer ≡ length answer′ → length trace ≡ length trace′ → Alike (bayTickOf s e answer trace) (bayTickOf s e answer′ trace′)
-  unfolding bayTickOf bayChargedOf bayStepOf
+  unfolding bayTickOf
   tick-alike l j = rw j (go (eqb (length trace′) recordLength))
     where
+      own : List ℕ → Outcome
+      own b = tickOf (sequenceIn s) (stateIn s) e (readBackIn s) b
+
       go : (c : Bool)
-          → Alike (cond c (recorded e trace (charged s (delivering s e) answer (stateKept s (tickOf (sequenceIn s) (stateIn s) e (readBackIn s) answer)))) (called 1 s (answer ∷ trace ∷ [])))
-          (cond c (recorded e trace′ (charged s (delivering s e) answer′ (stateKept s (tickOf (sequenceIn s) (stateIn s) e (readBackIn s) answer′)))) (called 1 s (answer′ ∷ trace′ ∷ [])))
+          → Alike (cond c (byOutcome s e answer trace (delivering s e) (own answer)) (called 1 s (answer ∷ trace ∷ [])))
+          (cond c (byOutcome s e answer′ trace′ (delivering s e) (own answer′)) (called 1 s (answer′ ∷ trace′ ∷ [])))
       go true =
-          kept-alike (tickOf (sequenceIn s) (stateIn s) e (readBackIn s) answer) (tickOf (sequenceIn s) (stateIn s) e (readBackIn s) answer′)
-          (ticks-alike (sequenceIn s) (stateIn s) e (readBackIn s) answer answer′ l) (instants-alike (sequenceIn s) (stateIn s) e (readBackIn s) answer answer′ l)
+          by-outcome (own answer) (own answer′) (ticks-alike (sequenceIn s) (stateIn s) e (readBackIn s) answer answer′ l)
+          (instants-alike (sequenceIn s) (stateIn s) e (readBackIn s) answer answer′ l)
       go false = turned 0 s (answer ∷ trace ∷ []) (answer′ ∷ trace′ ∷ [])
 
 -- ---- the readers, by the length of the view
@@ -227,7 +235,7 @@ module _ (bay : ℕ) (b : bay < bayCount) where
   -- a call to the bay
   own-view : (box : List ℕ) → length box ≡ boxLength → (x : Request) (xs : List Request) → x .bay ≡ bay
       → View (afterCall callOf box x) xs → View box (x ∷ xs)
-  unfolding overBay boxAfter answersAlone stretchAlone
+  unfolding callsTo boxAfter answersAlone stretchAlone
   own-view box z x xs q r =
       let c : Call = x .call in
       let e : eqb (x .bay) bay ≡ true = eq-eqb (x .bay) bay q in
@@ -243,7 +251,7 @@ module _ (bay : ℕ) (b : bay < bayCount) where
 
   -- a call to another
   other-view : (box : List ℕ) (x : Request) (xs : List Request) → (x .bay ≡ bay → ⊥) → View (afterCall callOf box x) xs → View box (x ∷ xs)
-  unfolding overBay boxAfter
+  unfolding callsTo boxAfter
   other-view box x xs q r =
       let e : eqb (x .bay) bay ≡ false = ne-eqb (x .bay) bay q in
       let after : List ℕ = afterCall callOf box x in
@@ -254,7 +262,7 @@ module _ (bay : ℕ) (b : bay < bayCount) where
       }
 
   view : (box : List ℕ) → length box ≡ boxLength → (xs : List Request) → View box xs
-  unfolding overBay boxAfter answersAlone stretchAlone
+  unfolding callsTo boxAfter answersAlone stretchAlone
   view box z [] = record { answered = refl; left = refl }
   view box z (x ∷ xs) =
       let r = view (afterCall callOf box x) (same-length box (x .bay) (x .call) ∙ z) xs in

@@ -22,7 +22,7 @@ use Rattle.box_positions.proofs.Theorems.{cleared-agrees, save-agrees, forget-a
 use Rattle.spec_bay.specs.Called.{called, number, memoryAfter}
 use Rattle.spec_bay.specs.Stretch.{stateAt, lengthIn, isEmpty, sequenceIn, stateIn, positionsIn, Terms}
 use Rattle.spec_box.specs.Box.{bayCount, boxLength, emptyBox, stretchOf, present, Call, admit, release, tick, save, restore, forget, service, panel, preview, ledger, newYear, buffers, bayCall, isFor, callOf}
-use Rattle.spec_box.specs.Lists.{Request, afterCall, boxAfter}
+use Rattle.spec_box.specs.Lists.{Request, afterCall, boxAfter, Found, callsTo, inTurn}
 use Rattle.spec_box.specs.Shares.{Sendable, AllSendable, none, each}
 use Rattle.spec_box.specs.Positions.{changedBy, savedIn, NoneKnown}
 use Rattle.theory_box.proofs.Standing.{not-empty, sequence-held}
@@ -84,6 +84,20 @@ comes-back box bay name n = go (is-known (stretchOf bay box) name)
     go (known labels e) =
         (labels, e, stretch-after box bay (restore name) n ∙ ap memoryAfter (restore-known r name labels e))
 
+-- ---- the calls to a bay: the first of a list, if it is one of them
+module _ {Box : Type 0} (after : Box → Request → Box) (bay : ℕ) (box : Box) (c : Call) (xs : List Request) where
+  abbrev asks : Request
+  asks = record { bay = bay; call = c }
+
+  pub own-call : callsTo after bay box (record { bay = bay; call = c } ∷ xs) ≡ record { box = box; call = c } ∷ callsTo after bay (after box asks) xs
+  unfolding callsTo
+  own-call = rw (eq-eqb bay bay refl)
+
+  pub own-turn : {A : Type 0} (makes : Found Box → A → A) (there : A)
+      → inTurn makes there (callsTo after bay box (record { bay = bay; call = c } ∷ xs))
+      ≡ inTurn makes (makes (record { box = box; call = c }) there) (callsTo after bay (after box asks) xs)
+  own-turn makes there = ap (inTurn makes there) own-call
+
 -- ---- by name
 agrees-empty : (s : List ℕ) → Sound s → isEmpty s ≡ true → (ps : List (Position ℕ)) → Agrees (positionsIn s) ps → Agrees (zeros tableLength) ps
 agrees-empty s (vacant z e c) i ps a = subst (λ (t : List ℕ). Agrees t ps) c a
@@ -124,18 +138,18 @@ module _ (bay : ℕ) (b : bay < bayCount) where
   unfolding boxAfter savedIn
   own-step box h ps a c r xs f =
       elim (ℕ-discrete (number (callOf box bay c)) 0) [
-        | yes n ↦ rw (eq-eqb bay bay refl, eq-eqb (number (callOf box bay c)) 0 n)
+        | yes n ↦ rw (own-turn, eq-eqb (number (callOf box bay c)) 0 n)
             (f (changedBy c (labelsIn (stateIn (stretchOf bay box))) ps)
             (subst (λ (t : List ℕ). Agrees t (changedBy c (labelsIn (stateIn (stretchOf bay box))) ps)) (sym (positions-after box bay c n))
             (agrees-by (present bayCount box) (stretchOf bay box) (h .sound bay b) c r (answered-there box bay c n .0)
             (bay-answered box bay c n) ps a)))
-        | no n ↦ rw (eq-eqb bay bay refl, ne-eqb (number (callOf box bay c)) 0 n)
+        | no n ↦ rw (own-turn, ne-eqb (number (callOf box bay c)) 0 n)
             (f ps (same-after box (memoryAfter (callOf box bay c)) ps
             (refused-stretch box bay c n) a))
       ]
 
   by-name : (box : List ℕ) → Kept box → (ps : List (Position ℕ)) → Same box ps → (xs : List Request) → AllSendable xs → Over box ps xs
-  unfolding boxAfter savedIn
+  unfolding boxAfter savedIn callsTo
   by-name box h ps a [] none = a
   by-name box h ps a (x ∷ xs) (each r k) =
       let after : List ℕ = afterCall callOf box x in

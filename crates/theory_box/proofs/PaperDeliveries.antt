@@ -23,7 +23,7 @@ use Rattle.spec_bay.specs.Ledgers.{farmCount, readingLength, readingFor, wouldP
 use Rattle.spec_bay.specs.Stretch.{Terms}
 use Rattle.spec_bay.specs.BayCalls.{sharedCeiling}
 use Rattle.spec_box.specs.Box.{bayCount, Call, admit, release, tick, save, restore, forget, service, panel, preview, ledger, newYear, buffers}
-use Rattle.spec_box.specs.Lists.{Request}
+use Rattle.spec_box.specs.Lists.{Request, callsTo}
 use Rattle.spec_box.specs.Years.{sumOf}
 use Rattle.spec_box.specs.PaperBox.{BayMachine, PaperBay, PaperPlace, PaperBox, PaperReply, Reported, ticked, replies, down, holds, shows, withMachine, presentOn, programOf, freshBay, admitOn, addsOn, tickOn, renamedOn, saveOn, restoreOn, previewedOn, previewOn, sized, placeCall, withPlace, paperCall, answerSeen}
 use Rattle.spec_box.specs.Reports.{paperAfter}
@@ -153,14 +153,13 @@ module _ {S T R : Type 0} (m : BayMachine S T R) (bay : ℕ) (small : bay < bayC
   -- THE TOTALS ON PAPER are the sums of what was delivered
   pub totals-are-sums : (box : PaperBox S T) (ds : List ℕ) → box bay .totals f ≡ sumOf ds → (xs : List Request)
       → paperAfter m box xs bay .totals f ≡ sumOf (deliveriesOver m bay f box ds xs)
-  unfolding paperAfter deliveriesOver
+  unfolding paperAfter deliveriesOver callsTo
   totals-are-sums box ds h [] = h
   totals-are-sums box ds h (x ∷ xs) =
       elim (ℕ-discrete (x .bay) bay) [
         | yes q ↦ subst (λ (j : ℕ).
             paperAfter m (paperCall m box j (x .call) .1) xs bay .totals f
-            ≡ sumOf (deliveriesOver m bay f (paperCall m box j (x .call) .1)
-            (cond (eqb j bay) (deliveriesAfter m f (x .call) (paperCall m box bay (x .call) .0) (box bay .bay) ds) ds) xs)) (sym q)
+            ≡ sumOf (deliveriesOver m bay f box ds (record { bay = j; call = x .call } ∷ xs))) (sym q)
             (rw (eq-eqb bay bay refl)
             (totals-are-sums (paperCall m box bay (x .call) .1) (deliveriesAfter m f (x .call) (paperCall m box bay (x .call) .0) (box bay .bay) ds)
             (own-total box ds h (x .call)) xs))

@@ -31,7 +31,7 @@ use Rattle.theory_tick.proofs.Sequence.{accepted, same-statement}
 use Rattle.spec_bay.specs.Called.{Called, called, number, memoryAfter}
 use Rattle.spec_bay.specs.Stretch.{stateAt, countAt, positionsAt, bayLength, stretchLength, stateIn, positionsIn, Terms}
 use Rattle.spec_bay.specs.BayCalls.{positionsKept, restored, bayTickOf, bayReleaseOf, bayAdmitOf, baySaveOf, bayForgetOf, bayRestoreOf, bayNewYearOf}
-use Rattle.spec_box.specs.Box.{Call, admit, release, tick, save, restore, forget, service, panel, preview, ledger, newYear, bayCall}
+use Rattle.spec_box.specs.Box.{Call, admit, release, tick, save, restore, forget, service, panel, preview, ledger, newYear, onAdmit, onRelease, onSave, onForget, bayCall}
 use Rattle.spec_box.specs.Shares.{Sendable}
 use Rattle.theory_bay.proofs.Fields.{slot-vacated, filled-zeros}
 use Rattle.theory_box.proofs.Moves as moves
@@ -43,17 +43,10 @@ use Rattle.theory_box.proofs.Standing.{Standing, put-stands}
 
 -- ---- what a call answered 0 makes of the table
 abbrev pub tableBy : Call → List ℕ → List ℕ
-tableBy (admit t) s = zeros tableLength
-tableBy release s = zeros tableLength
-tableBy (tick e answer trace) s = positionsIn s
-tableBy (save name) s = tableKept (saveOf name (labelsIn (stateIn s)) (positionsIn s))
-tableBy (restore name) s = positionsIn s
-tableBy (forget name) s = tableKept (forgetOf name (positionsIn s))
-tableBy (service trace view) s = positionsIn s
-tableBy (panel trace view) s = positionsIn s
-tableBy (preview e u buffer) s = positionsIn s
-tableBy (ledger totals) s = positionsIn s
-tableBy newYear s = positionsIn s
+tableBy c s =
+    onSave (onForget (onAdmit (onRelease (positionsIn s) (zeros tableLength) c) (λ t. zeros tableLength) c)
+    (λ name. tableKept (forgetOf name (positionsIn s))) c)
+    (λ name. tableKept (saveOf name (labelsIn (stateIn s)) (positionsIn s))) c
 
 module _ (k : ℕ) (s : List ℕ) (z : length s ≡ stretchLength) where
   kept-table : (o : Kept) → length (tableKept o) ≡ tableLength → positionsIn (memoryAfter (positionsKept s o)) ≡ tableKept o

@@ -5,23 +5,17 @@ use native.Mathlib.Omega.{arith}
 use native.Mathlib.Decide.{ℕ-discrete}
 use mathlib.Core.Path.{_≡_, refl, sym, ap, ap₂, _∙_}
 use mathlib.Core.Logic.{_≢_}
-use mathlib.Core.Bool.{Bool, true, false, _&&_, cond}
+use mathlib.Core.Bool.{Bool, true, false, cond}
 use mathlib.Core.List.{List, [], _∷_}
 use lib.ListN.{length}
 use lib.Dec.{eqb}
 use borrow.Author.Tests.{eq-eqb, ne-eqb}
 use Rattle.spec_base.specs.Limits.{numberBytes}
-use Rattle.spec_language.specs.Statement.{Statement}
-use Rattle.spec_language.specs.Reaction.{inheritanceFirst}
-use Rattle.spec_language.specs.Machines.{State}
-use Rattle.spec_sequence.specs.Program.{program}
 use Rattle.spec_sequence.specs.Rows.{rank}
-use Rattle.spec_sequence.specs.Check.{Checked, sound, bad, checked}
 use Rattle.theory_sequence.proofs.Rows.{row-rank}
 use Rattle.spec_base.specs.Bytes.{leBytes, leNumber}
 use Rattle.numbers.proofs.Bytes.{length-leBytes}
-use Rattle.spec_tick.specs.StateRecord.{stateLength, Decoded, holds, malformed, decodeState}
-use Rattle.records.proofs.StateLaws.{length-state}
+use Rattle.spec_tick.specs.StateRecord.{stateLength}
 use Rattle.spec_tick.specs.AnswerRecord.{answerLength}
 use Rattle.spec_tick.specs.Record.{recordLength, recordOf}
 use Rattle.spec_tick.specs.Recording.{following}
@@ -29,8 +23,7 @@ use Rattle.spec_base.specs.Parts.{slot, put}
 use Rattle.numbers.proofs.Putting.{put-slot, length-put, slot-put, put-before, put-behind}
 use Rattle.spec_bay.specs.Ledgers.{ledgerLength, passes, added}
 use Rattle.box_ledgers.proofs.Theorems.{added-sized}
-use Rattle.spec_tick.specs.Tick as Tick
-use Rattle.spec_tick.specs.Tick.{Outcome, outcome, byState, replied, tickBy, tickOf}
+use Rattle.spec_tick.specs.Tick.{Outcome, outcome, tickOf}
 use Rattle.spec_tick.specs.TickRows.{TickRow, row-1, row-2-to-10, row-11, row-12}
 use Rattle.spec_tick.specs.Demands as demands
 use Rattle.spec_tick.specs.Demands.{stateAfterwards, answerAfterwards}
@@ -38,9 +31,10 @@ use Rattle.theory_tick.proofs.Sequence.{tick-short}
 use Rattle.theory_tick.proofs.Demand1.{demand-1}
 use Rattle.spec_bay.specs.Called.{Called, called, number, memoryAfter, lentAfter, first}
 use Rattle.spec_bay.specs.Stretch.{stateAt, countAt, bayLength, stretchLength, sequenceIn, readBackIn, stateIn, lastNumberIn, ledgerIn, withLedger}
-use Rattle.spec_bay.specs.BayCalls.{stateKept, delivering, charged, recorded, bayStepOf, bayChargedOf, bayTickOf}
+use Rattle.spec_bay.specs.BayCalls.{delivering, byOutcome, bayTickOf}
 use Rattle.spec_box.specs.BayRuns.{paperBuffer}
 use Rattle.theory_bay.proofs.Fields.{ledger-sized, state-sized}
+use Rattle.theory_bay.proofs.Ticking.{tick-sized}
 
 -- ---- the rows of a tick come before 13 and 19
 pub tick-range : {sequence : List ℕ} {readBack : ℕ} {state answer : List ℕ} (k : ℕ) → TickRow sequence readBack state answer k → rank k ≤ rank 12
@@ -53,25 +47,6 @@ pub own-below : (sequence state : List ℕ) (e readBack : ℕ) (answer : List �
     → demands.number (tickOf sequence state e readBack answer) ≢ k
 own-below sequence state e readBack answer k n l h =
     let r = demand-1 .tick-by-rows sequence state e readBack answer .refusal k n .0 h .0 in omega (arith, tick-range k r)
-
-state-kept : (p : Statement) (d : Decoded) (state : List ℕ) (e : ℕ) (answer : List ℕ) → length state ≡ stateLength
-    → length (stateAfterwards (replied (byState inheritanceFirst p d e) state answer)) ≡ stateLength
-state-kept p malformed state e answer h = h
-state-kept p (holds State.fresh) state e answer h = length-state _
-state-kept p (holds (State.waits L)) state e answer h = length-state _
-state-kept p (holds State.over) state e answer h = h
-
-tick-sized : (sequence state : List ℕ) (e readBack : ℕ) (answer : List ℕ) → length state ≡ stateLength
-    → length (stateAfterwards (tickOf sequence state e readBack answer)) ≡ stateLength
-unfolding tickBy
-tick-sized sequence state e readBack answer h =
-    go (eqb (length state) stateLength && eqb (length answer) answerLength) (checked sequence readBack)
-  where
-    go : (b : Bool) (c : Checked)
-        → length (stateAfterwards (cond b (replied (Tick.byCheck inheritanceFirst readBack c state e) state answer) (outcome 1 state answer))) ≡ stateLength
-    go false c = h
-    go true (bad k) = h
-    go true (sound p) = state-kept (program readBack p) (decodeState p state) state e answer h
 
 module _ (s : List ℕ) (z : length s ≡ stretchLength) (e : ℕ) (answer trace : List ℕ) where
   -- what the tick on the bay's sequence comes to, with the buffer that the paper sees
@@ -100,8 +75,8 @@ module _ (s : List ℕ) (z : length s ≡ stretchLength) (e : ℕ) (answer trace
     instant : (state left : List ℕ) → length state ≡ stateLength → length trace ≡ recordLength → passes (ledgerIn s) (delivering s e) ≡ false
         → inner ≡ outcome 0 state left → o ≡ called 0 (written state) (left ∷ recordOf next e left state ∷ []) → Ticked o
 
-  like-tick : length trace ≡ recordLength → bayTickOf s e answer trace ≡ recorded e trace (charged s x answer (stateKept s inner))
-  unfolding bayTickOf bayChargedOf bayStepOf
+  like-tick : length trace ≡ recordLength → bayTickOf s e answer trace ≡ byOutcome s e answer trace x inner
+  unfolding bayTickOf
   like-tick j = rw (eq-eqb (length trace) recordLength j)
 
   pub unlike-tick : length trace ≢ recordLength → bayTickOf s e answer trace ≡ called 1 s (answer ∷ trace ∷ [])
@@ -133,14 +108,6 @@ module _ (s : List ℕ) (z : length s ≡ stretchLength) (e : ℕ) (answer trace
     before-ledger i m h =
         let k = length-stepped state l in put-before bayLength ledgerLength (added x (ledgerIn s)) (stepped state) (omega arith) new-sized i m h
 
-    noted : (left : List ℕ) → recorded e trace (called 0 (entered state) (left ∷ [])) ≡ called 0 (written state) (left ∷ recordOf next e left state ∷ [])
-    noted left =
-        ap₂ (λ (c : ℕ) (r : List ℕ).
-        called 0 (put countAt numberBytes (leBytes numberBytes (following c)) (entered state)) (left ∷ recordOf (following c) e left r ∷ []))
-        (ap leNumber (before-ledger countAt numberBytes (omega arith)
-        ∙ put-behind stateAt stateLength state s (omega arith) l countAt numberBytes (omega arith)))
-        (before-ledger stateAt stateLength (omega arith) ∙ slot-put stateAt stateLength state s (omega arith) l)
-
   pub ticked : Ticked (bayTickOf s e answer trace)
   ticked = elim (ℕ-discrete (length trace) recordLength) [
     | yes j ↦ go inner refl j
@@ -152,16 +119,10 @@ module _ (s : List ℕ) (z : length s ≡ stretchLength) (e : ℕ) (answer trace
 
       entering : (state left : List ℕ) → inner ≡ outcome 0 state left → length trace ≡ recordLength
           → (b : Bool) → passes (ledgerIn s) (delivering s e) ≡ b → Ticked (bayTickOf s e answer trace)
-      entering state left q j true h =
-          full (ap demands.number q) h
-          (like-tick j ∙ ap (λ (o : Outcome). recorded e trace (charged s x answer (stateKept s o))) q
-          ∙ ap (λ (c : Bool). recorded e trace (cond c (called 19 s (answer ∷ [])) (called 0 (entered state) (left ∷ [])))) h)
+      entering state left q j true h = full (ap demands.number q) h (like-tick j ∙ ap (byOutcome s e answer trace x) q ∙ rw h)
       entering state left q j false h =
           let l : length state ≡ stateLength = sym (ap (λ (o : Outcome). length (stateAfterwards o)) q) ∙ sized in
-          instant state left l j h q
-          (like-tick j ∙ ap (λ (o : Outcome). recorded e trace (charged s x answer (stateKept s o))) q
-          ∙ ap (λ (c : Bool). recorded e trace (cond c (called 19 s (answer ∷ [])) (called 0 (entered state) (left ∷ [])))) h
-          ∙ noted h state l left)
+          instant state left l j h q (like-tick j ∙ ap (byOutcome s e answer trace x) q ∙ rw h)
 
       go : (o : Outcome) → inner ≡ o → length trace ≡ recordLength → Ticked (bayTickOf s e answer trace)
       go (outcome zero state left) q j = entering state left q j (passes (ledgerIn s) (delivering s e)) refl
@@ -172,8 +133,7 @@ module _ (s : List ℕ) (z : length s ≡ stretchLength) (e : ℕ) (answer trace
           k ∙ ap (λ (i : ℕ). outcome i (stateIn s) (paperBuffer trace answer)) m in
           down (suc n) (λ y. omega arith)
           (λ y. own-below (sequenceIn s) (stateIn s) e (readBackIn s) (paperBuffer trace answer) 19 (λ u. omega arith) (omega arith) (m ∙ y)) w
-          (like-tick j ∙ ap (λ (o : Outcome). recorded e trace (charged s x answer (stateKept s o))) w
-          ∙ ap₂ (λ (r b : List ℕ). called (suc n) r (b ∷ trace ∷ [])) (put-slot stateAt stateLength s) (like-buffer j answer))
+          (like-tick j ∙ ap (byOutcome s e answer trace x) w)
 
   -- ---- what ledger and record leave of the tick: number and answer, unless the ledger is full; refusals and length
   pub tick-number : number (bayTickOf s e answer trace) ≢ 19 → number (bayTickOf s e answer trace) ≡ demands.number inner

@@ -30,9 +30,9 @@ use Rattle.spec_tick.specs.Demands.{outcomes}
 use Rattle.spec_bay.specs.Called.{Called, memoryAfter}
 use Rattle.spec_tick.specs.Recording.{following}
 use Rattle.spec_bay.specs.Stretch.{stateAt, ceilingIn, partOf, vacated, filled, Terms}
-use Rattle.spec_bay.specs.BayCalls.{bayStepOf, bayChargedOf, bayTickOf, bayReleaseOf, bayAdmitOf}
+use Rattle.spec_bay.specs.BayCalls.{bayTickOf, bayReleaseOf, bayAdmitOf}
 use Rattle.spec_box.specs.Box.{emptyBox, present, Call, admit, release, save, onTick, callOf}
-use Rattle.spec_box.specs.Lists.{Request, boxAfter, overBay, Answer, answered}
+use Rattle.spec_box.specs.Lists.{Request, boxAfter, Answer, answered, callsTo}
 use Rattle.spec_box.specs.Shares.{none, each}
 use Rattle.spec_box.specs.BayRuns.{Stays, Onward, Onwards, TicksInBay}
 use Rattle.spec_box.specs.Leaves.{AdmissionLeaves, ReleaseLeaves}
@@ -67,7 +67,7 @@ abbrev besideOver : List Request
 besideOver = admitted 1 ends ∷ ticked 1 ∷ byItself
 
 pub not-readsNeighbour : ¬ Isolated readsNeighbour
-unfolding overBay boxAfter callOf emptyBox present partOf vacated filled bayStepOf bayChargedOf wouldPass totalIn addedBelow deliveredBy ofBits whole inUnsigned toUnsigned bayTickOf following bayReleaseOf bayAdmitOf put zeros leBytes leNumber tickBy checked read front commandOf distinct wellFormed before everyLabel labelsOf subset disjoint valid active activeLabels membersFrom declaredBy commands loopNesting signalNesting ceiling encodeState decodeState encodeAnswer expand reactBy errorsBy reactionsBy Sets.none only member join insert remove
+unfolding callsTo boxAfter callOf emptyBox present partOf vacated filled wouldPass totalIn addedBelow deliveredBy ofBits whole inUnsigned toUnsigned bayTickOf following bayReleaseOf bayAdmitOf put zeros leBytes leNumber tickBy checked read front commandOf distinct wellFormed before everyLabel labelsOf subset disjoint valid active activeLabels membersFrom declaredBy commands loopNesting signalNesting ceiling encodeState decodeState encodeAnswer expand reactBy errorsBy reactionsBy Sets.none only member join insert remove
 not-readsNeighbour h =
     let e : _≡_ {A = ℕ} 0 12 = ap (numberAt 1) (h 0 (omega arith) byItself besideOver refl .0) in omega arith
 
@@ -83,7 +83,7 @@ abbrev waiting : Terms
 waiting = record { sequence = waitsOnce; readBack = 0; serviceOnly = 0 }
 
 pub no-ticks-readsNeighbour : ¬ TicksInBay readsNeighbour
-unfolding overBay boxAfter callOf emptyBox present partOf vacated filled bayStepOf bayChargedOf wouldPass totalIn addedBelow deliveredBy ofBits whole inUnsigned toUnsigned bayTickOf following bayReleaseOf bayAdmitOf put zeros leBytes leNumber tickBy checked read front commandOf distinct wellFormed before everyLabel labelsOf subset disjoint valid active activeLabels membersFrom declaredBy commands loopNesting signalNesting ceiling encodeState decodeState encodeAnswer expand reactBy errorsBy reactionsBy Sets.none only member join insert remove outcomes
+unfolding callsTo boxAfter callOf emptyBox present partOf vacated filled wouldPass totalIn addedBelow deliveredBy ofBits whole inUnsigned toUnsigned bayTickOf following bayReleaseOf bayAdmitOf put zeros leBytes leNumber tickBy checked read front commandOf distinct wellFormed before everyLabel labelsOf subset disjoint valid active activeLabels membersFrom declaredBy commands loopNesting signalNesting ceiling encodeState decodeState encodeAnswer expand reactBy errorsBy reactionsBy Sets.none only member join insert remove outcomes
 no-ticks-readsNeighbour h =
     let small : (0 < 4294967296) × (0 < 4294967296) = (omega arith, omega arith) in
     let from : List ℕ = memoryAfter (readsNeighbour neighbourOver 0 (admit waiting)) in

@@ -33,7 +33,7 @@ use Rattle.spec_tick.specs.Record.{recordLength}
 use Rattle.spec_tick.specs.Recording.{following}
 use Rattle.spec_bay.specs.Preview.{previewLength, both, gathered, findings, previewOf}
 use Rattle.spec_bay.specs.Stretch.{lastNumberIn, partOf, vacated, filled}
-use Rattle.spec_bay.specs.BayCalls.{bayStepOf, bayChargedOf, bayTickOf, bayReleaseOf, bayAdmitOf, bayPreviewOf}
+use Rattle.spec_bay.specs.BayCalls.{bayTickOf, bayReleaseOf, bayAdmitOf, bayPreviewOf}
 use Rattle.spec_box.specs.Box.{emptyBox, stretchOf, present, callOf}
 use Rattle.spec_box.specs.Lists.{boxAfter}
 use Rattle.spec_box.specs.Previews.{MachineStays, TenBytes, LearningStays, PreviewForesees}
@@ -58,34 +58,34 @@ trace = replicate recordLength 0
 
 -- with signal 0 present, signal 1 is emitted
 pub not-forgetsStatus : ¬ PreviewForesees forgetsStatus
-unfolding boxAfter callOf emptyBox present partOf vacated filled bayStepOf bayChargedOf wouldPass totalIn addedBelow deliveredBy ofBits whole inUnsigned toUnsigned bayTickOf following bayReleaseOf bayAdmitOf bayPreviewOf previewOf findings gathered both subsetsBelow common difference allBelow put zeros leBytes leNumber tickBy checked read front commandOf distinct wellFormed before everyLabel labelsOf subset disjoint valid active activeLabels membersFrom declaredBy commands loopNesting signalNesting ceiling encodeState decodeState encodeAnswer expand reactBy errorsBy reactionsBy none only member join insert remove
+unfolding boxAfter callOf emptyBox present partOf vacated filled wouldPass totalIn addedBelow deliveredBy ofBits whole inUnsigned toUnsigned bayTickOf following bayReleaseOf bayAdmitOf bayPreviewOf previewOf findings gathered both subsetsBelow common difference allBelow put zeros leBytes leNumber tickBy checked read front commandOf distinct wellFormed before everyLabel labelsOf subset disjoint valid active activeLabels membersFrom declaredBy commands loopNesting signalNesting ceiling encodeState decodeState encodeAnswer expand reactBy errorsBy reactionsBy none only member join insert remove
 not-forgetsStatus h =
     true≢false (h (filledBox tested) 0 1 0 ten refl 1 answer trace refl (λ i m. refl) .emits-never 1 refl)
 
 -- and so it is if signal 0, of unknown status, comes to be present
 pub not-takesAbsent : ¬ PreviewForesees takesAbsent
-unfolding boxAfter callOf emptyBox present partOf vacated filled bayStepOf bayChargedOf wouldPass totalIn addedBelow deliveredBy ofBits whole inUnsigned toUnsigned bayTickOf following bayReleaseOf bayAdmitOf bayPreviewOf previewOf findings gathered both subsetsBelow common difference allBelow put zeros leBytes leNumber tickBy checked read front commandOf distinct wellFormed before everyLabel labelsOf subset disjoint valid active activeLabels membersFrom declaredBy commands loopNesting signalNesting ceiling encodeState decodeState encodeAnswer expand reactBy errorsBy reactionsBy none only member join insert remove
+unfolding boxAfter callOf emptyBox present partOf vacated filled wouldPass totalIn addedBelow deliveredBy ofBits whole inUnsigned toUnsigned bayTickOf following bayReleaseOf bayAdmitOf bayPreviewOf previewOf findings gathered both subsetsBelow common difference allBelow put zeros leBytes leNumber tickBy checked read front commandOf distinct wellFormed before everyLabel labelsOf subset disjoint valid active activeLabels membersFrom declaredBy commands loopNesting signalNesting ceiling encodeState decodeState encodeAnswer expand reactBy errorsBy reactionsBy none only member join insert remove
 not-takesAbsent h =
     true≢false (h (filledBox tested) 0 0 1 ten refl 1 answer trace refl (λ i m. member-none i ∙ sym m) .emits-never 1 refl)
 
 -- or is learned to be
 pub not-takesAbsent-learning : ¬ LearningStays takesAbsent
-unfolding boxAfter callOf emptyBox present partOf vacated filled bayStepOf bayChargedOf wouldPass totalIn addedBelow deliveredBy ofBits whole inUnsigned toUnsigned bayTickOf following bayReleaseOf bayAdmitOf bayPreviewOf previewOf findings gathered both subsetsBelow common difference allBelow put zeros leBytes leNumber tickBy checked read front commandOf distinct wellFormed before everyLabel labelsOf subset disjoint valid active activeLabels membersFrom declaredBy commands loopNesting signalNesting ceiling encodeState decodeState encodeAnswer expand reactBy errorsBy reactionsBy none only member join insert remove
+unfolding boxAfter callOf emptyBox present partOf vacated filled wouldPass totalIn addedBelow deliveredBy ofBits whole inUnsigned toUnsigned bayTickOf following bayReleaseOf bayAdmitOf bayPreviewOf previewOf findings gathered both subsetsBelow common difference allBelow put zeros leBytes leNumber tickBy checked read front commandOf distinct wellFormed before everyLabel labelsOf subset disjoint valid active activeLabels membersFrom declaredBy commands loopNesting signalNesting ceiling encodeState decodeState encodeAnswer expand reactBy errorsBy reactionsBy none only member join insert remove
 not-takesAbsent-learning h = true≢false (sym (h (filledBox tested) 0 0 1 0 true ten ten refl refl refl .1 .never-stays 1 refl))
 
 -- the status given for signal 0 makes a difference
 pub not-keepsStatus : ¬ PreviewForesees keepsStatus
-unfolding boxAfter callOf emptyBox present partOf vacated filled bayStepOf bayChargedOf wouldPass totalIn addedBelow deliveredBy ofBits whole inUnsigned toUnsigned bayTickOf following bayReleaseOf bayAdmitOf bayPreviewOf previewOf findings gathered both subsetsBelow common difference allBelow put zeros leBytes leNumber tickBy checked read front commandOf distinct wellFormed before everyLabel labelsOf subset disjoint valid active activeLabels membersFrom declaredBy commands loopNesting signalNesting ceiling encodeState decodeState encodeAnswer expand reactBy errorsBy reactionsBy none only member join insert remove
+unfolding boxAfter callOf emptyBox present partOf vacated filled wouldPass totalIn addedBelow deliveredBy ofBits whole inUnsigned toUnsigned bayTickOf following bayReleaseOf bayAdmitOf bayPreviewOf previewOf findings gathered both subsetsBelow common difference allBelow put zeros leBytes leNumber tickBy checked read front commandOf distinct wellFormed before everyLabel labelsOf subset disjoint valid active activeLabels membersFrom declaredBy commands loopNesting signalNesting ceiling encodeState decodeState encodeAnswer expand reactBy errorsBy reactionsBy none only member join insert remove
 not-keepsStatus h =
     true≢false (h (filledBox tested) 0 0 1 ten refl 1 answer trace refl (λ i m. member-none i ∙ sym m) .emits-never 1 refl)
 
 -- an instant is counted
 pub not-movesMachine : ¬ MachineStays movesMachine
-unfolding boxAfter callOf emptyBox present partOf vacated filled bayStepOf bayChargedOf wouldPass totalIn addedBelow deliveredBy ofBits whole inUnsigned toUnsigned bayTickOf following bayReleaseOf bayAdmitOf bayPreviewOf previewOf findings gathered both subsetsBelow common difference allBelow put zeros leBytes leNumber tickBy checked read front commandOf distinct wellFormed before everyLabel labelsOf subset disjoint valid active activeLabels membersFrom declaredBy commands loopNesting signalNesting ceiling encodeState decodeState encodeAnswer expand reactBy errorsBy reactionsBy none only member join insert remove
+unfolding boxAfter callOf emptyBox present partOf vacated filled wouldPass totalIn addedBelow deliveredBy ofBits whole inUnsigned toUnsigned bayTickOf following bayReleaseOf bayAdmitOf bayPreviewOf previewOf findings gathered both subsetsBelow common difference allBelow put zeros leBytes leNumber tickBy checked read front commandOf distinct wellFormed before everyLabel labelsOf subset disjoint valid active activeLabels membersFrom declaredBy commands loopNesting signalNesting ceiling encodeState decodeState encodeAnswer expand reactBy errorsBy reactionsBy none only member join insert remove
 not-movesMachine h =
     let e : _≡_ {A = ℕ} 1 0 = ap (λ (b : List ℕ). lastNumberIn (stretchOf 0 b)) (h (filledBox ends) 0 0 0 ten) in omega arith
 
 -- every filling has the code 0
 pub not-saysOpen : ¬ TenBytes saysOpen
-unfolding boxAfter callOf emptyBox present partOf vacated filled bayStepOf bayChargedOf wouldPass totalIn addedBelow deliveredBy ofBits whole inUnsigned toUnsigned bayTickOf following bayReleaseOf bayAdmitOf bayPreviewOf previewOf findings gathered both subsetsBelow common difference allBelow put zeros leBytes leNumber tickBy checked read front commandOf distinct wellFormed before everyLabel labelsOf subset disjoint valid active activeLabels membersFrom declaredBy commands loopNesting signalNesting ceiling encodeState decodeState encodeAnswer expand reactBy errorsBy reactionsBy none only member join insert remove
+unfolding boxAfter callOf emptyBox present partOf vacated filled wouldPass totalIn addedBelow deliveredBy ofBits whole inUnsigned toUnsigned bayTickOf following bayReleaseOf bayAdmitOf bayPreviewOf previewOf findings gathered both subsetsBelow common difference allBelow put zeros leBytes leNumber tickBy checked read front commandOf distinct wellFormed before everyLabel labelsOf subset disjoint valid active activeLabels membersFrom declaredBy commands loopNesting signalNesting ceiling encodeState decodeState encodeAnswer expand reactBy errorsBy reactionsBy none only member join insert remove
 not-saysOpen h = h (filledBox ends) 0 0 1 ten refl answer refl .none-shared .0 refl (0, λ f s. refl)

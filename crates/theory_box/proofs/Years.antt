@@ -30,8 +30,8 @@ use Rattle.theory_tick.proofs.Sequence.{accepted}
 use Rattle.spec_bay.specs.Called.{Called, called, number, memoryAfter}
 use Rattle.spec_bay.specs.Stretch.{stateAt, countAt, positionsAt, bayLength, stretchLength, lengthIn, stateIn, positionsIn, ledgerIn}
 use Rattle.spec_bay.specs.BayCalls.{positionsKept, restored, delivering, bayTickOf, bayReleaseOf, bayAdmitOf, baySaveOf, bayForgetOf, bayRestoreOf, bayNewYearOf}
-use Rattle.spec_box.specs.Box.{bayCount, boxLength, emptyBox, stretchOf, present, Call, admit, release, tick, save, restore, forget, service, panel, preview, ledger, newYear, onTick, bayCall, isFor, callOf}
-use Rattle.spec_box.specs.Lists.{Request, afterCall, boxAfter, overBay}
+use Rattle.spec_box.specs.Box.{bayCount, boxLength, emptyBox, stretchOf, present, Call, admit, release, tick, save, restore, forget, service, panel, preview, ledger, newYear, onTick, onNewYear, bayCall, isFor, callOf}
+use Rattle.spec_box.specs.Lists.{Request, afterCall, boxAfter, callsTo}
 use Rattle.spec_box.specs.BayRuns.{tickLitres}
 use Rattle.spec_box.specs.Years.{deliveredAfter, deliveredSince, SameYear, done, more, sumOf, TotalsExact, LedgerShows, YearBegins, LedgerNumbers, ownNumber, WouldPass, Nineteen, PreviewsNeverNineteen}
 use Rattle.theory_bay.proofs.Fields.{ledger-sized, vacated-behind, filled-behind}
@@ -42,22 +42,12 @@ use Rattle.theory_box.proofs.Previews.{preview-stays, preview-not}
 use Rattle.theory_box.proofs.Bays.{ceilingFor, bounds, Admission, turned-down, admits, admission}
 use Rattle.theory_box.proofs.Stretches.{refused-stretch, number-there, stretch-sized, own, no-bay, other-box, same-length, others-stay}
 use Rattle.theory_box.proofs.Reached.{empty-stretch, kept-empty}
-use Rattle.theory_box.proofs.Named.{bay-answered, stretch-after}
+use Rattle.theory_box.proofs.Named.{bay-answered, stretch-after, own-call, own-turn}
 use Rattle.theory_box.proofs.Instants.{shown-in}
 
 -- ---- what a call answered 0 makes of the ledger
 abbrev pub ledgerBy : Call → List ℕ → List ℕ
-ledgerBy (admit t) s = ledgerIn s
-ledgerBy release s = ledgerIn s
-ledgerBy (tick e answer trace) s = added (delivering s e) (ledgerIn s)
-ledgerBy (save name) s = ledgerIn s
-ledgerBy (restore name) s = ledgerIn s
-ledgerBy (forget name) s = ledgerIn s
-ledgerBy (service trace view) s = ledgerIn s
-ledgerBy (panel trace view) s = ledgerIn s
-ledgerBy (preview e u buffer) s = ledgerIn s
-ledgerBy (ledger totals) s = ledgerIn s
-ledgerBy newYear s = cleared
+ledgerBy c s = onTick (onNewYear (ledgerIn s) cleared c) (λ e answer trace. added (delivering s e) (ledgerIn s)) c
 
 module _ (k : ℕ) (s : List ℕ) (z : length s ≡ stretchLength) where
   -- something is written before it
@@ -173,18 +163,18 @@ module _ (bay : ℕ) (b : bay < bayCount) where
     own-step box z c sum e xs r =
         let s = stretchOf bay box in
         elim (ℕ-discrete (number (callOf box bay c)) 0) [
-          | yes n ↦ rw (eq-eqb bay bay refl, eq-eqb (number (callOf box bay c)) 0 n)
+          | yes n ↦ rw (own-turn, eq-eqb (number (callOf box bay c)) 0 n)
               (r (deliveredAfter f c s sum)
               (ap (totalIn f) (held-after box z c n)
               ∙ total-by (present bayCount box) s (stretch-sized box bay c b z) f l c (bay-answered box bay c n)
               ∙ ap (deliveredAfter f c s) e))
-          | no n ↦ rw (eq-eqb bay bay refl, ne-eqb (number (callOf box bay c)) 0 n)
+          | no n ↦ rw (own-turn, ne-eqb (number (callOf box bay c)) 0 n)
               (r sum (ap (λ (s : List ℕ). totalIn f (ledgerIn s)) (refused-stretch box bay c n) ∙ e))
         ]
 
     pub total-since : (box : List ℕ) → length box ≡ boxLength → (sum : ℕ) → totalIn f (held box) ≡ sum → (xs : List Request)
         → totalIn f (held (boxAfter callOf box xs)) ≡ deliveredSince callOf bay f box sum xs
-    unfolding boxAfter deliveredSince
+    unfolding boxAfter deliveredSince callsTo
     total-since box z sum e [] = e
     total-since box z sum e (x ∷ xs) =
         elim (ℕ-discrete (x .bay) bay) [
@@ -246,16 +236,15 @@ module _ (bay f : ℕ) where
 
   tick-sums : (box : List ℕ) (e : ℕ) (answer trace : List ℕ) (xs : List Request) → Sums (memoryAfter (callOf box bay (tick e answer trace))) xs
       → Sums box (record { bay = bay; call = tick e answer trace } ∷ xs)
-  unfolding deliveredSince overBay sumOf
+  unfolding deliveredSince sumOf
   tick-sums box e answer trace xs r sum =
       let n = number (callOf box bay (tick e answer trace)) in
       let x = delivering (stretchOf bay box) e f in
-      let same = eq-eqb bay bay refl in
       elim (ℕ-discrete n 0) [
-        | yes i ↦ rw (same, eq-eqb n 0 i, ne-eqb n 19 (λ y. omega arith)) (let k = r (sum + x) in omega arith)
+        | yes i ↦ rw (own-turn, own-call, eq-eqb n 0 i, ne-eqb n 19 (λ y. omega arith)) (let k = r (sum + x) in omega arith)
         | no i ↦ elim (ℕ-discrete n 19) [
-          | yes j ↦ rw (same, ne-eqb n 0 i, eq-eqb n 19 j) (r sum)
-          | no j ↦ rw (same, ne-eqb n 0 i, ne-eqb n 19 j) (let k = r sum in omega arith)
+          | yes j ↦ rw (own-turn, own-call, ne-eqb n 0 i, eq-eqb n 19 j) (r sum)
+          | no j ↦ rw (own-turn, own-call, ne-eqb n 0 i, ne-eqb n 19 j) (let k = r sum in omega arith)
         ]
       ]
 
@@ -263,7 +252,7 @@ module _ (bay f : ℕ) where
   other-sums : (box : List ℕ) (c : Call) (xs : List Request) → ((s : List ℕ) (sum : ℕ) → deliveredAfter f c s sum ≡ sum)
       → ((rest : List ℕ) (made : ℕ → List ℕ → List ℕ → List ℕ) → onTick rest made c ≡ rest) → Sums (memoryAfter (callOf box bay c)) xs
       → Sums box (record { bay = bay; call = c } ∷ xs)
-  unfolding deliveredSince overBay
+  unfolding deliveredSince callsTo
   other-sums box c xs d q r sum =
       let after = memoryAfter (callOf box bay c) in
       rw (eq-eqb bay bay refl)
@@ -289,7 +278,7 @@ module _ (bay f : ℕ) where
   own-sums box newYear xs y r = absurd (y refl)
 
   pub year-sums : (box : List ℕ) (xs : List Request) → SameYear bay xs → Sums box xs
-  unfolding deliveredSince overBay sumOf
+  unfolding deliveredSince callsTo sumOf
   year-sums box [] done = λ sum. omega arith
   year-sums box (x ∷ xs) (more y k) =
       elim (ℕ-discrete (x .bay) bay) [

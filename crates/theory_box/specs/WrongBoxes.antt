@@ -8,8 +8,8 @@ use Rattle.spec_base.specs.Parts.{put, zeros}
 use Rattle.spec_tick.specs.Tick.{tickOf}
 use Rattle.spec_bay.specs.Called.{Called, called, number, memoryAfter}
 use Rattle.spec_bay.specs.Stretch.{lengthBytes, stateAt, sequenceIn, readBackIn, ceilingIn, stateIn}
-use Rattle.spec_bay.specs.BayCalls.{stateKept, delivering, charged, recorded, bayAdmitOf}
-use Rattle.spec_box.specs.Box.{bayCount, stretchOf, present, Call, admit, release, tick, save, restore, forget, service, panel, preview, ledger, newYear, onTick, onAdmit, inBox, callOf}
+use Rattle.spec_bay.specs.BayCalls.{delivering, byOutcome, bayAdmitOf}
+use Rattle.spec_box.specs.Box.{bayCount, stretchOf, present, Call, onAdmit, onRelease, onTick, onSave, onRestore, inBox, callOf}
 use Rattle.spec_box.specs.Lists.{Calling}
 
 -- another result for a call that is answered with this number
@@ -18,17 +18,7 @@ instead n other o = cond (eqb (number o) n) other o
 
 -- what a call comes to, with another one for a release, for a save or for a restore
 abbrev pub altered : (released : Called → Called) (saved : ℕ → Called → Called) (restored : Called → Called) → Call → Called → Called
-altered released saved restored (admit t) o = o
-altered released saved restored release o = released o
-altered released saved restored (tick e answer trace) o = o
-altered released saved restored (save name) o = saved name o
-altered released saved restored (restore name) o = restored o
-altered released saved restored (forget name) o = o
-altered released saved restored (service trace view) o = o
-altered released saved restored (panel trace view) o = o
-altered released saved restored (preview e unknown buffer) o = o
-altered released saved restored (ledger totals) o = o
-altered released saved restored newYear o = o
+altered released saved restored c o = onSave (onRestore (onRelease o (released o) c) (λ name. restored o) c) (λ name. saved name o) c
 
 -- a tick that reads the neighbour's state
 abbrev pub readsNeighbour : Calling
@@ -37,10 +27,8 @@ readsNeighbour box bay c =
     (λ e answer trace.
     cond (eqb (number (callOf box bay c)) 13) (called 13 box (answer ∷ trace ∷ []))
     (inBox bay box
-    (recorded e trace
-    (charged (stretchOf bay box) (delivering (stretchOf bay box) e) answer
-    (stateKept (stretchOf bay box)
-    (tickOf (sequenceIn (stretchOf bay box)) (stateIn (stretchOf (suc bay % bayCount) box)) e (readBackIn (stretchOf bay box)) answer))))))
+    (byOutcome (stretchOf bay box) e answer trace (delivering (stretchOf bay box) e)
+    (tickOf (sequenceIn (stretchOf bay box)) (stateIn (stretchOf (suc bay % bayCount) box)) e (readBackIn (stretchOf bay box)) answer))))
     c
 
 -- an admission that forgets the last bay in the sum

@@ -16,8 +16,9 @@ use Rattle.spec_base.specs.WholeLitres.{litres}
 use Rattle.spec_bay.specs.Ledgers as Ledgers
 use Rattle.spec_bay.specs.Ledgers.{farmCount, totalIn, totalFloat, added}
 use Rattle.spec_bay.specs.Called.{Called, called, number, memoryAfter, lentAfter}
-use Rattle.spec_bay.specs.Stretch.{stretchLength, sequenceIn, readBackIn, ledgerIn, withLedger}
-use Rattle.spec_bay.specs.BayCalls.{delivering, recorded, bayStepOf}
+use Rattle.spec_bay.specs.Stretch.{stretchLength, sequenceIn, readBackIn, stateIn, ledgerIn, withLedger}
+use Rattle.spec_tick.specs.Tick.{tickOf}
+use Rattle.spec_bay.specs.BayCalls.{delivering, byOutcome}
 use Rattle.spec_box.specs.Box.{stretchOf, Call, onTick, inBox, callOf}
 use Rattle.spec_box.specs.Lists.{Calling}
 use Rattle.theory_box.specs.WrongBoxes.{instead, altered}
@@ -87,7 +88,9 @@ testsInSingles box bay c =
     retold
     (λ e answer trace o.
     cond (eqb (number o) 19 && not (passesInSingles farmCount (ledgerIn (stretchOf bay box)) (delivering (stretchOf bay box) e)))
-    (inBox bay box (recorded e trace (bayStepOf (stretchOf bay box) e answer)))
+    (inBox bay box
+    (byOutcome (stretchOf bay box) e answer trace (λ farm. 0)
+    (tickOf (sequenceIn (stretchOf bay box)) (stateIn (stretchOf bay box)) e (readBackIn (stretchOf bay box)) answer)))
     o)
     c (callOf box bay c)
 

@@ -7,23 +7,13 @@ use Rattle.spec_tick.specs.Record.{recordLength}
 use Rattle.spec_base.specs.Parts.{put, zeros}
 use Rattle.spec_bay.specs.Preview.{openCode, previewLength}
 use Rattle.spec_bay.specs.Called.{Called, called, number, memoryAfter, lentAfter, first}
-use Rattle.spec_box.specs.Box.{Call, admit, release, tick, save, restore, forget, service, panel, preview, ledger, newYear, callOf}
+use Rattle.spec_box.specs.Box.{Call, tick, preview, onPreview, callOf}
 use Rattle.spec_box.specs.Lists.{Calling}
 use Rattle.theory_box.specs.WrongBoxes.{instead}
 
 -- a preview that is told otherwise
 abbrev foretold : (told : (e unknown : ℕ) (buffer : List ℕ) → Called) → Call → Called → Called
-foretold told (admit t) o = o
-foretold told release o = o
-foretold told (tick e answer trace) o = o
-foretold told (save name) o = o
-foretold told (restore name) o = o
-foretold told (forget name) o = o
-foretold told (service trace view) o = o
-foretold told (panel trace view) o = o
-foretold told (preview e unknown buffer) o = told e unknown buffer
-foretold told (ledger totals) o = o
-foretold told newYear o = o
+foretold told c o = onPreview o told c
 
 -- the status given for known inputs is ignored: they are taken as absent
 abbrev pub forgetsStatus : Calling

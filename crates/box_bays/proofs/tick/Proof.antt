@@ -28,7 +28,8 @@ same-length-3 c = search needs
 returns-2 : tie.Need-returns-2
 returns-2 c =
     let told = c .before .before .before .before .before .before .before .before in
-    recorded-tick _ _ _ _ (told .before .before .before .before .before .before .before .before .if1 .left) _ _ _ (told .before .before .before .before .before .step .ensures) (told .if2 .taken) (c .before .before .before .before .note .ensures)
+    let from = told .before .before .before .before .before .before .before .before in
+    recorded-tick _ _ _ _ (from .before .before .before .before .pre) (from .if1 .left) _ _ _ (told .before .before .before .before .before .step .ensures) (told .if2 .taken) (c .before .before .before .before .note .ensures)
 
 same-length-4 : tie.Need-same-length-4
 same-length-4 c = search needs
@@ -37,7 +38,9 @@ same-length-5 : tie.Need-same-length-5
 same-length-5 c = search needs
 
 returns-3 : tie.Need-returns-3
-returns-3 c = refused-tick _ _ _ _ (c .before .before .before .before .before .before .before .before .if1 .left) _ _ _ (c .before .before .before .before .before .step .ensures) (c .if2 .left)
+returns-3 c =
+    let from = c .before .before .before .before .before .before .before .before in
+    refused-tick _ _ _ _ (from .before .before .before .before .pre) (from .if1 .left) _ _ _ (c .before .before .before .before .before .step .ensures) (c .if2 .left)
 
 pub tick-spec : {M : Type 1} → statement M
 tick-spec =
