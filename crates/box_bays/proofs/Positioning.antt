@@ -13,7 +13,9 @@ use Rattle.spec_base.specs.Bytes.{replaced}
 use Rattle.spec_base.specs.Parts.{slot, put}
 use Rattle.spec_tick.specs.StateRecord.{stateLength, stateRecord, phaseIn, labelsIn}
 use Rattle.records.proofs.StateStores.{state-written}
-use Rattle.spec_bay.specs.Table.{savedLabels, placeOf, labelsFound, lookup, cleared, kept, saveOf, forgetOf}
+use Rattle.spec_bay.specs.Table.{savedLabels, cleared, kept, saveOf}
+use Rattle.box_positions.specs.Places.{placeOf, labelsFound}
+use Rattle.box_positions.proofs.Searching.{lookup-is, forget-is}
 use Rattle.spec_bay.specs.Called.{Called, called}
 use Rattle.spec_bay.specs.Stretch.{stateAt, countAt, positionsAt, bayLength, stretchLength, stateIn, positionsIn}
 use Rattle.spec_bay.specs.BayCalls.{positionsKept, restored, baySaveOf, bayRestoreOf, bayForgetOf}
@@ -47,14 +49,16 @@ module _ (s : List ℕ) (name : ℕ) where
     at-place = b ∙ ap (placeOf name) a
 
     pub restored-at : {o : Called} → o ≡ restored s (labelsFound k (positionsIn s)) → o ≡ bayRestoreOf s name
-    unfolding bayRestoreOf lookup
-    restored-at h = h ∙ ap (λ (i : ℕ). restored s (labelsFound i (positionsIn s))) at-place
+    unfolding bayRestoreOf
+    restored-at h =
+        h ∙ ap (λ (i : ℕ). restored s (labelsFound i (positionsIn s))) at-place ∙ ap (restored s) (sym (lookup-is name (positionsIn s)))
 
     pub forgotten : (n : ℕ) (t′ : List ℕ) → kept n t′ ≡ cond (ltb k maxPositions) (kept 0 (cleared k lent)) (kept 15 lent)
         → called n (back t′) [] ≡ bayForgetOf s name
-    unfolding bayForgetOf forgetOf put
+    unfolding bayForgetOf put
     forgotten n t′ h =
-        ap (positionsKept s) (h ∙ ap (λ (i : ℕ). cond (ltb i maxPositions) (kept 0 (cleared i lent)) (kept 15 lent)) at-place)
+        ap (positionsKept s)
+        (h ∙ ap (λ (i : ℕ). cond (ltb i maxPositions) (kept 0 (cleared i lent)) (kept 15 lent)) at-place ∙ sym (forget-is name (positionsIn s)))
 
 module _ (s : List ℕ) {k : ℕ} where
   pub unknown-name : maxPositions ≤ k → called 15 s [] ≡ restored s (labelsFound k (positionsIn s))

@@ -2,7 +2,7 @@
 ghost use mathlib.Core.Path.{_≡_};
 ghost use mathlib.Core.List.{[]};
 ghost use lib.ListN.{length};
-ghost use Rattle.spec_bay.specs.Table.{placeOf, labelsFound};
+ghost use Rattle.box_positions.specs.Places.{placeOf, labelsFound};
 ghost use Rattle.spec_bay.specs.Called.{called};
 ghost use Rattle.spec_bay.specs.Stretch.{stretchLength, positionsIn};
 ghost use Rattle.spec_bay.specs.BayCalls.{baySaveOf, restored};

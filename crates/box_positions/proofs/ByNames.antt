@@ -13,7 +13,8 @@ use borrow.Author.Tests.{eq-eqb, ne-eqb, lt-ltb, le-ltb}
 use Rattle.spec_base.specs.Limits.{labelBytes, maxPositions, nameBytes}
 use Rattle.spec_base.specs.Parts.{zeros}
 use Rattle.spec_bay.specs.Names.{Position, position, find, without, Answered, answered, saveNamed, forgetNamed, numberAnswered, positionsAfter, namesOf, Once}
-use Rattle.spec_bay.specs.Table.{tableLength, keyIn, placeOf, lookup, numberKept, tableKept, saveOf, forgetOf, names, Agrees}
+use Rattle.spec_bay.specs.Table.{tableLength, keyIn, lookup, numberKept, tableKept, saveOf, forgetOf}
+use Rattle.box_positions.specs.Places.{placeOf, names, Agrees}
 use Rattle.box_positions.proofs.Lookups.{lookup-at, lookup-none, present}
 use Rattle.box_positions.proofs.TableLaws.{Place, Saving, placed, full, saving, lookup-saved, lookup-others-saved, formed-saved, Forgetting, known, unknown, forgetting, lookup-forgotten, lookup-others-forgotten, formed-forgotten, formed-zeros, lookup-zeros}
 use Rattle.box_positions.proofs.Once.{fewer}

@@ -17,7 +17,8 @@ use Rattle.spec_tick.specs.StateRecord.{stateLength, stateRecord, labelsIn}
 use Rattle.records.proofs.StateLaws.{state-sized}
 use Rattle.spec_base.specs.Parts.{slot, put}
 use Rattle.numbers.proofs.Putting.{put-before, put-behind, put-within, length-put}
-use Rattle.spec_bay.specs.Table.{keyBytes, entryLength, tableLength, entryOf, keyOf, keyIn, savedLabels, place}
+use Rattle.spec_bay.specs.Table.{keyBytes, entryLength, tableLength, entryOf, keyIn, savedLabels}
+use Rattle.box_positions.specs.Places.{keyOf, place}
 
 -- ---- an entry
 module _ (name labels : ℕ) where

@@ -12,7 +12,8 @@ use lib.Dec.{eqb}
 use borrow.Author.Tests.{eq-eqb, ne-eqb}
 use Rattle.spec_base.specs.Limits.{maxPositions}
 use Rattle.spec_bay.specs.Names.{Once}
-use Rattle.spec_bay.specs.Table.{keyOf, nameOf, keyIn, savedLabels, placeOf, lookup, numberKept, saveOf, forgetOf, namesBelow, names, SixteenKnown, Formed}
+use Rattle.spec_bay.specs.Table.{keyIn, savedLabels, lookup, numberKept, saveOf, forgetOf, SixteenKnown}
+use Rattle.box_positions.specs.Places.{keyOf, nameOf, placeOf, namesBelow, names, Formed}
 use Rattle.box_positions.proofs.Lookups.{lookup-at, lookup-none, key-found, present}
 use Rattle.box_positions.proofs.Once.{fewer}
 use Rattle.box_positions.proofs.TableLaws.{Saving, placed, full, saving, Forgetting, known, unknown, forgetting}

@@ -4,5 +4,6 @@ pub mod Known
 pub mod Lookups
 pub mod Once
 pub mod Placing
+pub mod Searching
 pub mod TableLaws
 pub mod Theorems

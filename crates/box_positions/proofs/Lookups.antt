@@ -13,17 +13,17 @@ use Rattle.spec_base.specs.Limits.{maxPositions, nameBytes}
 use Rattle.spec_base.specs.Bytes.{leNumber}
 use Rattle.spec_tick.specs.StateRecord.{stateLength, labelsIn}
 use Rattle.spec_base.specs.Parts.{slot, put}
-use Rattle.spec_bay.specs.Table.{keyBytes, entryLength, keyOf, keyIn, savedLabels, placeOf, labelsFound, lookup, FreeOrNamed, Formed}
+use Rattle.spec_bay.specs.Table.{keyBytes, entryLength, keyIn, savedLabels, lookup}
+use Rattle.box_positions.specs.Places.{keyOf, placeOf, labelsFound, FreeOrNamed, Formed}
+use Rattle.box_positions.proofs.Searching.{lookup-is}
 use Rattle.box_positions.proofs.Entries.{length-entry, own-key, own-labels, other-key, other-labels, found, missing, only, same-place}
 
 module _ (name : ℕ) (t : List ℕ) where
   pub lookup-at : (i : ℕ) → placeOf name t ≡ i → i < maxPositions → lookup name t ≡ some (savedLabels i t)
-  unfolding lookup
-  lookup-at i e l = ap (λ (p : ℕ). labelsFound p t) e ∙ rw (lt-ltb i maxPositions l)
+  lookup-at i e l = lookup-is name t ∙ ap (λ (p : ℕ). labelsFound p t) e ∙ rw (lt-ltb i maxPositions l)
 
   pub lookup-none : maxPositions ≤ placeOf name t → lookup name t ≡ none
-  unfolding lookup
-  lookup-none l = rw (le-ltb (placeOf name t) maxPositions l)
+  lookup-none l = lookup-is name t ∙ rw (le-ltb (placeOf name t) maxPositions l)
 
   pub key-found : placeOf name t < maxPositions → keyIn (placeOf name t) t ≡ keyOf name
   key-found l = found (keyOf name) t maxPositions (omega arith) l .1
@@ -83,15 +83,16 @@ module _ (i : ℕ) (bytes t : List ℕ) (f : Formed t) (l : i < maxPositions) (s
           ]
 
       pub lookup-apart : lookup other after ≡ lookup other t
-      unfolding lookup
       lookup-apart =
-          ap (λ (p : ℕ). labelsFound p after) (same-place maxPositions (keyOf other) after t (λ j w. same-test j))
-          ∙ elim (decLt (placeOf other t) maxPositions) [
+          lookup-is other after
+          ∙ ap (λ (p : ℕ). labelsFound p after) (same-place maxPositions (keyOf other) after t (λ j w. same-test j))
+          ∙ (let same : labelsFound (placeOf other t) after ≡ labelsFound (placeOf other t) t = elim (decLt (placeOf other t) maxPositions) [
             | yes w ↦ rw (lt-ltb (placeOf other t) maxPositions w)
                 (ap some (other-labels i bytes t (f .sized) l sized (placeOf other t)
                 (λ e. old (ap (λ (m : ℕ). keyIn m t) (sym e) ∙ key-found other t w))))
             | no w ↦ rw (le-ltb (placeOf other t) maxPositions (omega arith))
-          ]
+          ] in same)
+          ∙ sym (lookup-is other t)
 
   -- each entry is free or named if this one is
   still-named : FreeOrNamed new → (j : ℕ) → j < maxPositions → FreeOrNamed (keyIn j after)

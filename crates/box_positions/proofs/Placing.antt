@@ -17,7 +17,9 @@ use Rattle.spec_tick.specs.StateRecord.{stateLength, stateRecord}
 use Rattle.records.proofs.StateLaws.{state-sized}
 use Rattle.spec_base.specs.Parts.{slot, put, zeros}
 use Rattle.numbers.proofs.Putting.{length-put, stored, put-next}
-use Rattle.spec_bay.specs.Table.{entryLength, tableLength, keyIn, place, placeOf, placeFor, written, cleared, kept, saveOf}
+use Rattle.spec_bay.specs.Table.{entryLength, tableLength, keyIn, written, cleared, kept, saveOf}
+use Rattle.box_positions.specs.Places.{place, placeOf, placeFor}
+use Rattle.box_positions.proofs.Searching.{save-is}
 
 place-step : (n key : ℕ) (t : List ℕ) → 0 < n → place n key t ≡ cond (eqb (keyIn (n - 1) t) key) (n - 1) (place (n - 1) key t)
 unfolding place
@@ -48,12 +50,16 @@ module _ (name : ℕ) (t : List ℕ) {k i : ℕ} (w : k ≡ placeOf name t) (e :
   for-name = e ∙ ap (λ (j : ℕ). cond (ltb j maxPositions) j (place maxPositions 0 t)) w
 
   pub saved : i < maxPositions → {t′ : List ℕ} → t′ ≡ written i name labels t → kept 0 t′ ≡ saveOf name labels t
-  unfolding saveOf
-  saved l h = rw (lt-ltb (placeFor name t) maxPositions (rw for-name at l)) (ap (kept 0) (h ∙ ap (λ (j : ℕ). written j name labels t) for-name))
+  saved l {t′} h =
+      (let e : kept 0 t′ ≡ cond (ltb (placeFor name t) maxPositions) (kept 0 (written (placeFor name t) name labels t)) (kept 16 t) =
+      rw (lt-ltb (placeFor name t) maxPositions (rw for-name at l)) (ap (kept 0) (h ∙ ap (λ (j : ℕ). written j name labels t) for-name)) in e)
+      ∙ sym (save-is name labels t)
 
   pub not-saved : maxPositions ≤ i → kept 16 t ≡ saveOf name labels t
-  unfolding saveOf
-  not-saved l = rw (le-ltb (placeFor name t) maxPositions (rw for-name at l))
+  not-saved l =
+      (let e : kept 16 t ≡ cond (ltb (placeFor name t) maxPositions) (kept 0 (written (placeFor name t) name labels t)) (kept 16 t) =
+      rw (le-ltb (placeFor name t) maxPositions (rw for-name at l)) in e)
+      ∙ sym (save-is name labels t)
 
 module _ (i : ℕ) (t : List ℕ) where
   pub forgotten : i < maxPositions → {t′ : List ℕ} → t′ ≡ cleared i t → kept 0 t′ ≡ cond (ltb i maxPositions) (kept 0 (cleared i t)) (kept 15 t)

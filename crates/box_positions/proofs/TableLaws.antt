@@ -12,8 +12,10 @@ use Rattle.spec_base.specs.Limits.{labelBytes, maxPositions, nameBytes}
 use Rattle.spec_base.specs.Bytes.{leNumber}
 use Rattle.spec_base.specs.Parts.{slot, zeros}
 use Rattle.numbers.proofs.Zeros.{length-zeros, slot-zeros, zeros-number}
-use Rattle.spec_bay.specs.Table.{keyBytes, entryLength, tableLength, entryOf, keyOf, keyIn, place, placeOf, placeFor, lookup, Kept, kept, numberKept, tableKept, written, cleared, saveOf, forgetOf, Formed}
+use Rattle.spec_bay.specs.Table.{keyBytes, entryLength, tableLength, entryOf, keyIn, lookup, Kept, kept, numberKept, tableKept, written, cleared, saveOf, forgetOf}
+use Rattle.box_positions.specs.Places.{keyOf, place, placeOf, placeFor, Formed}
 use Rattle.box_positions.proofs.Entries.{entry-sized, entry-key, entry-labels, length-entry, found, missing}
+use Rattle.box_positions.proofs.Searching.{save-is, forget-is}
 use Rattle.box_positions.proofs.Lookups.{lookup-none, key-found, key-missing, absent, lookup-apart, lookup-own, formed-named, formed-free, lookup-gone}
 
 -- ---- save
@@ -27,21 +29,20 @@ module _ (name labels : ℕ) (t : List ℕ) where
     full : maxPositions ≤ placeOf name t → ((j : ℕ) → j < maxPositions → keyIn j t ≢ 0) → saveOf name labels t ≡ kept 16 t → Saving
 
   pub saving : Saving
-  unfolding saveOf
   saving =
       elim (decLt (placeOf name t) maxPositions) [
         | yes w ↦
             let e : placeFor name t ≡ placeOf name t = rw (lt-ltb (placeOf name t) maxPositions w) in
             let l : placeFor name t < maxPositions = omega arith in
-            placed (placeFor name t) l (inl (ap (λ (m : ℕ). keyIn m t) e ∙ key-found name t w)) (rw (lt-ltb (placeFor name t) maxPositions l))
+            placed (placeFor name t) l (inl (ap (λ (m : ℕ). keyIn m t) e ∙ key-found name t w)) (save-is name labels t ∙ rw (lt-ltb (placeFor name t) maxPositions l))
         | no w ↦
             let e : placeFor name t ≡ place maxPositions 0 t = rw (le-ltb (placeOf name t) maxPositions (omega arith)) in
             elim (decLt (placeFor name t) maxPositions) [
               | yes l ↦ placed (placeFor name t) l
                   (inr (omega arith, ap (λ (m : ℕ). keyIn m t) e ∙ found 0 t maxPositions (omega arith) (omega arith) .1))
-                  (rw (lt-ltb (placeFor name t) maxPositions l))
+                  (save-is name labels t ∙ rw (lt-ltb (placeFor name t) maxPositions l))
               | no l ↦ full (omega arith) (missing 0 t maxPositions (omega arith) (omega arith))
-                  (rw (le-ltb (placeFor name t) maxPositions (omega arith)))
+                  (save-is name labels t ∙ rw (le-ltb (placeFor name t) maxPositions (omega arith)))
             ]
       ]
 
@@ -111,11 +112,10 @@ module _ (name : ℕ) (t : List ℕ) where
     unknown : maxPositions ≤ placeOf name t → forgetOf name t ≡ kept 15 t → Forgetting
 
   pub forgetting : Forgetting
-  unfolding forgetOf
   forgetting =
       elim (decLt (placeOf name t) maxPositions) [
-        | yes w ↦ known w (rw (lt-ltb (placeOf name t) maxPositions w))
-        | no w ↦ unknown (omega arith) (rw (le-ltb (placeOf name t) maxPositions (omega arith)))
+        | yes w ↦ known w (forget-is name t ∙ rw (lt-ltb (placeOf name t) maxPositions w))
+        | no w ↦ unknown (omega arith) (forget-is name t ∙ rw (le-ltb (placeOf name t) maxPositions (omega arith)))
       ]
 
   pub forget-refused : numberKept (forgetOf name t) ≢ 0 → tableKept (forgetOf name t) ≡ t

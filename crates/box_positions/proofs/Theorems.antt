@@ -8,7 +8,8 @@ use lib.ListN.{length}
 use Rattle.spec_base.specs.Limits.{labelBytes, maxPositions, nameBytes}
 use Rattle.spec_base.specs.Parts.{zeros}
 use Rattle.spec_bay.specs.Names.{Position, saveNamed, forgetNamed, numberAnswered, positionsAfter, Once}
-use Rattle.spec_bay.specs.Table.{tableLength, lookup, numberKept, tableKept, saveOf, forgetOf, names, SixteenKnown, Formed, Agrees}
+use Rattle.spec_bay.specs.Table.{tableLength, lookup, numberKept, tableKept, saveOf, forgetOf, SixteenKnown}
+use Rattle.box_positions.specs.Places.{names, Formed, Agrees}
 use Rattle.box_positions.proofs.TableLaws as laws
 use Rattle.box_positions.proofs.Known as known
 use Rattle.box_positions.proofs.ByNames as by-names

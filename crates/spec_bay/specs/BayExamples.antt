@@ -28,7 +28,7 @@ use Rattle.spec_base.specs.Bytes.{leBytes, leNumber}
 use Rattle.spec_tick.specs.StateRecord.{stateLength, stateRecord, phaseIn, labelsIn, encodeState, decodeState}
 use Rattle.spec_tick.specs.AnswerRecord.{answerLength, codeIn, answerRecord, encodeAnswer}
 use Rattle.spec_base.specs.Parts.{put, zeros}
-use Rattle.spec_bay.specs.Table.{tableLength, entryLength, entryOf, place, lookup, saveOf}
+use Rattle.spec_bay.specs.Table.{tableLength, entryLength, entryOf, lastSuch, lookup, saveOf}
 use Rattle.spec_bay.specs.Ledgers.{totalIn, totalsBytes, wouldPass, addedBelow}
 use Rattle.spec_tick.specs.Record.{recordLength, recordOf, numberIn, panelLength, panelOf}
 use Rattle.spec_tick.specs.Recording.{following}
@@ -77,7 +77,7 @@ row-first = refl
 
 -- ---- a bay taken out: positions, state and its part of the ceiling are gone, the ledger stays
 positions-lost : lookup 9 (positionsIn (vacated busy)) ≡ Option.none
-unfolding lookup place busy filled vacated blank put zeros leBytes leNumber
+unfolding lookup lastSuch busy filled vacated blank put zeros leBytes leNumber
 positions-lost = refl
 
 fresh-again : phaseIn (stateIn (vacated busy)) ≡ 0
@@ -153,19 +153,19 @@ noneFree : List ℕ → List ℕ
 noneFree s = put positionsAt tableLength (replicate tableLength 1) s
 
 over-not-saved : number (baySaveOf (over busy) 9) ≡ 15
-unfolding baySaveOf over saveOf place busy filled vacated blank put zeros leBytes leNumber
+unfolding baySaveOf over saveOf lastSuch busy filled vacated blank put zeros leBytes leNumber
 over-not-saved = refl
 
 seventeenth : number (baySaveOf (noneFree (put stateAt stateLength (stateRecord 1 6) blank)) 9) ≡ 16
-unfolding baySaveOf noneFree saveOf place filled vacated blank put zeros leBytes leNumber
+unfolding baySaveOf noneFree saveOf lastSuch filled vacated blank put zeros leBytes leNumber
 seventeenth = refl
 
 waiting-first : number (baySaveOf (noneFree (over blank)) 9) ≡ 15
-unfolding baySaveOf noneFree over saveOf place filled vacated blank put zeros leBytes leNumber
+unfolding baySaveOf noneFree over saveOf lastSuch filled vacated blank put zeros leBytes leNumber
 waiting-first = refl
 
 labels-saved : lookup 9 (positionsIn (memoryAfter (baySaveOf busy 9))) ≡ some 6
-unfolding baySaveOf lookup place saveOf busy filled vacated blank put zeros leBytes leNumber
+unfolding baySaveOf lookup lastSuch saveOf busy filled vacated blank put zeros leBytes leNumber
 labels-saved = refl
 
 -- coming back sets phase and labels; the numbers go on, and the ledger stays

@@ -6,7 +6,7 @@ use mathlib.Core.List.{List, [], _∷_}
 use Rattle.spec_base.specs.Bytes.{leBytes, leNumber}
 use Rattle.spec_base.specs.Parts.{put, zeros}
 use Rattle.spec_bay.specs.Names.{Position, find, without, answered, saveNamed, forgetNamed, numberAnswered, positionsAfter, namesOf}
-use Rattle.spec_bay.specs.Table.{tableLength, place, lookup, numberKept, tableKept, saveOf, forgetOf}
+use Rattle.spec_bay.specs.Table.{tableLength, lastSuch, lookup, numberKept, tableKept, saveOf, forgetOf}
 
 -- names 0 to n - 1 saved, each with a label set of its own
 abbrev first : ℕ → List (Position ℕ)
@@ -38,23 +38,23 @@ two : List ℕ
 two = tableKept (saveOf 7 5 (tableKept (saveOf 0 3 (zeros tableLength))))
 
 zero-found : lookup 0 two ≡ some 3
-unfolding two saveOf lookup place put zeros leBytes leNumber
+unfolding two saveOf lookup lastSuch put zeros leBytes leNumber
 zero-found = refl
 
 other-unknown : lookup 1 two ≡ none
-unfolding two saveOf lookup place put zeros leBytes leNumber
+unfolding two saveOf lookup lastSuch put zeros leBytes leNumber
 other-unknown = refl
 
 zero-forgotten : lookup 0 (tableKept (forgetOf 0 two)) ≡ none
-unfolding two saveOf forgetOf lookup place put zeros leBytes leNumber
+unfolding two saveOf forgetOf lookup lastSuch put zeros leBytes leNumber
 zero-forgotten = refl
 
 unknown-refused : numberKept (forgetOf 1 two) ≡ 15
-unfolding two saveOf forgetOf place put zeros leBytes leNumber
+unfolding two saveOf forgetOf lastSuch put zeros leBytes leNumber
 unknown-refused = refl
 
 one-entry : lookup 7 (tableKept (forgetOf 7 (tableKept (saveOf 7 6 two)))) ≡ none
-unfolding two saveOf forgetOf lookup place put zeros leBytes leNumber
+unfolding two saveOf forgetOf lookup lastSuch put zeros leBytes leNumber
 one-entry = refl
 
 -- names that differ from another in one byte
@@ -62,9 +62,9 @@ apart : List ℕ
 apart = tableKept (saveOf 16777217 5 (tableKept (saveOf 65537 4 (tableKept (saveOf 257 3 (zeros tableLength))))))
 
 one-unknown : lookup 1 apart ≡ none
-unfolding apart saveOf lookup place put zeros leBytes leNumber
+unfolding apart saveOf lookup lastSuch put zeros leBytes leNumber
 one-unknown = refl
 
 each-found : lookup 65537 apart ≡ some 4
-unfolding apart saveOf lookup place put zeros leBytes leNumber
+unfolding apart saveOf lookup lastSuch put zeros leBytes leNumber
 each-found = refl

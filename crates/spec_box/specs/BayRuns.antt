@@ -23,7 +23,7 @@ use Rattle.spec_bay.specs.Called.{Called, number, memoryAfter, lentAfter, first
 use Rattle.spec_bay.specs.Stretch.{sequenceIn, readBackIn, serviceOnlyIn, stateIn, Terms, terms}
 use Rattle.spec_bay.specs.BayCalls.{delivering}
 use Rattle.spec_box.specs.Box.{stretchOf, Call, admit, release, restore, onTick}
-use Rattle.spec_box.specs.Lists.{Calling, Request, afterCall, boxAfter, callsTo, calledAt}
+use Rattle.spec_box.specs.Lists.{Calling, Request, afterCall, boxAfter, callsTo, comesTo}
 use Rattle.spec_box.specs.Shares.{Sendable}
 
 -- the paper knows no record: a record's buffer of another length is to it an answer buffer of another length
@@ -37,7 +37,7 @@ abbrev pub overTicks : {A : Type 0} → (counts : ℕ → Bool) → (taken : (bo
 overTicks counts taken call bay box xs =
     foldr (λ c rest.
     onTick rest (λ e answer trace.
-    cond (counts (number (calledAt call bay c))) (taken (c .box) e answer trace (calledAt call bay c) ∷ rest) rest)
+    cond (counts (number (comesTo call bay c))) (taken (c .box) e answer trace (comesTo call bay c) ∷ rest) rest)
     (c .call))
     [] (callsTo (afterCall call) bay box xs)
 

@@ -30,19 +30,19 @@ boxAfter call box (x ∷ xs) = boxAfter call (afterCall call box x) xs
 
 -- ---- THE CALLS TO ONE BAY
 -- a call to it with the box that it finds: one of bytes, or one on paper
-pub record Found (Box : Type 0) : Type 0 where
+pub record CallIn (Box : Type 0) : Type 0 where
   pub box : Box
   pub call : Call
 
 -- those of a list, in their order; `after` is the box after a call
-unfoldable pub callsTo : {Box : Type 0} → (after : Box → Request → Box) → (bay : ℕ) → Box → List Request → List (Found Box)
+unfoldable pub callsTo : {Box : Type 0} → (after : Box → Request → Box) → (bay : ℕ) → Box → List Request → List (CallIn Box)
 callsTo after bay box [] = []
 callsTo after bay box (x ∷ xs) =
     cond (eqb (x .bay) bay) (record { box = box; call = x .call } ∷ callsTo after bay (after box x) xs) (callsTo after bay (after box x) xs)
 
 -- what such a call comes to
-abbrev pub calledAt : Calling → (bay : ℕ) → Found (List ℕ) → Called
-calledAt call bay c = call (c .box) bay (c .call)
+abbrev pub comesTo : Calling → (bay : ℕ) → CallIn (List ℕ) → Called
+comesTo call bay c = call (c .box) bay (c .call)
 
 -- what they make of what was there, one after the other
 abbrev pub inTurn : {A B : Type 0} → (makes : A → B → B) → B → List A → B
@@ -50,8 +50,8 @@ inTurn makes there [] = there
 inTurn makes there (x ∷ xs) = inTurn makes (makes x there) xs
 
 -- a call that is turned down leaves what was there
-abbrev pub ifAnswered : {A : Type 0} → Calling → (bay : ℕ) → (makes : Found (List ℕ) → A → A) → Found (List ℕ) → A → A
-ifAnswered call bay makes c there = cond (eqb (number (calledAt call bay c)) 0) (makes c there) there
+abbrev pub ifAnswered : {A : Type 0} → Calling → (bay : ℕ) → (makes : CallIn (List ℕ) → A → A) → CallIn (List ℕ) → A → A
+ifAnswered call bay makes c there = cond (eqb (number (comesTo call bay c)) 0) (makes c there) there
 
 -- ---- what one bay is asked and answers
 -- the call with zeros in every buffer that it only writes, so that of such a buffer the length alone counts: a host may lend one buffer
@@ -78,7 +78,7 @@ abbrev pub askedBy : Call → Called → Asked
 askedBy c o = onAdmit (other (blanked c)) (λ t. admission t (number o)) c
 
 abbrev pub asked : Calling → (bay : ℕ) → List ℕ → List Request → List Asked
-asked call bay box xs = map (λ c. askedBy (c .call) (calledAt call bay c)) (callsTo (afterCall call) bay box xs)
+asked call bay box xs = map (λ c. askedBy (c .call) (comesTo call bay c)) (callsTo (afterCall call) bay box xs)
 
 -- what it answers: the number and, with number 0, the lent buffers; with another they are those that it was lent (RefusalsLeave)
 pub data Answer : Type 0 where
@@ -88,4 +88,4 @@ abbrev pub answerOf : Called → Answer
 answerOf o = answered (number o) (cond (eqb (number o) 0) (lentAfter o) [])
 
 abbrev pub answers : Calling → (bay : ℕ) → List ℕ → List Request → List Answer
-answers call bay box xs = map (λ c. answerOf (calledAt call bay c)) (callsTo (afterCall call) bay box xs)
+answers call bay box xs = map (λ c. answerOf (comesTo call bay c)) (callsTo (afterCall call) bay box xs)

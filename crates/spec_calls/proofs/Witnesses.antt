@@ -38,7 +38,7 @@ use Rattle.spec_replay.specs.Replay.{firstRecords, same, firstDifference, place
 use Rattle.spec_unroll.specs.Unrolled.{copied, unrolled}
 use Rattle.spec_unroll.specs.Call.{unrollOf}
 use Rattle.spec_base.specs.Parts.{put, zeros}
-use Rattle.spec_bay.specs.Table.{place, lookup, saveOf, forgetOf}
+use Rattle.spec_bay.specs.Table.{lastSuch, lookup, saveOf, forgetOf}
 use Rattle.spec_bay.specs.Ledgers.{readingLength, totalIn, totalsBytes, wouldPass, addedBelow}
 use Rattle.spec_bay.specs.Preview.{previewLength, both, gathered, findings, previewOf}
 use Rattle.spec_bay.specs.Stretch.{stateAt, partOf, vacated, terms, filled}
@@ -219,7 +219,7 @@ witnesses intake-box-ledger =
 witnesses intake-box-new-year = beginsYear fromStart 0 ∷ beginsYear fromStart 8 ∷ []
 
 pub all-given : (name : CallName) → map (callGives reachedBytes) (witnesses name) ≡ map some (rowFor name)
-unfolding witnesses fromStart fresh over overfull waiting named full reached unrollOf copied unrolled bytesOf depthOf replayOf placeOf firstDifference same firstRecords recordsFrom boxAfter callOf emptyBox present partOf vacated filled wouldPass totalIn addedBelow deliveredBy ofBits ofFields odd whole inUnsigned toUnsigned bayTickOf following bayReleaseOf bayAdmitOf baySaveOf bayForgetOf bayRestoreOf bayServiceOf bayPanelOf panelOf bayPreviewOf previewOf findings gathered both subsetsBelow common difference allBelow bayLedgerOf bayNewYearOf totalsBytes toBits ofInt saveOf forgetOf lookup place put zeros leBytes leNumber tickBy checkOf checked read front commandOf distinct wellFormed before everyLabel labelsOf subset disjoint valid active activeLabels membersFrom declaredBy commands loopNesting signalNesting ceiling encodeState decodeState encodeAnswer expand reactBy errorsBy reactionsBy Sets.none only member join insert remove
+unfolding witnesses fromStart fresh over overfull waiting named full reached unrollOf copied unrolled bytesOf depthOf replayOf placeOf firstDifference same firstRecords recordsFrom boxAfter callOf emptyBox present partOf vacated filled wouldPass totalIn addedBelow deliveredBy ofBits ofFields odd whole inUnsigned toUnsigned bayTickOf following bayReleaseOf bayAdmitOf baySaveOf bayForgetOf bayRestoreOf bayServiceOf bayPanelOf panelOf bayPreviewOf previewOf findings gathered both subsetsBelow common difference allBelow bayLedgerOf bayNewYearOf totalsBytes toBits ofInt saveOf forgetOf lookup lastSuch put zeros leBytes leNumber tickBy checkOf checked read front commandOf distinct wellFormed before everyLabel labelsOf subset disjoint valid active activeLabels membersFrom declaredBy commands loopNesting signalNesting ceiling encodeState decodeState encodeAnswer expand reactBy errorsBy reactionsBy Sets.none only member join insert remove
 all-given intake-check = refl
 all-given intake-ceiling = refl
 all-given intake-tick = refl
@@ -238,7 +238,7 @@ all-given intake-box-ledger = refl
 all-given intake-box-new-year = refl
 
 pub all-passable : (name : CallName) → map (passable reachedBytes) (witnesses name) ≡ map (λ (n : ℕ). true) (rowFor name)
-unfolding witnesses fromStart fresh over overfull waiting named full reached unrollOf copied unrolled bytesOf depthOf replayOf placeOf firstDifference same firstRecords recordsFrom boxAfter callOf emptyBox present partOf vacated filled wouldPass totalIn addedBelow deliveredBy ofBits ofFields odd whole inUnsigned toUnsigned bayTickOf following bayReleaseOf bayAdmitOf baySaveOf bayForgetOf bayRestoreOf bayServiceOf bayPanelOf panelOf bayPreviewOf previewOf findings gathered both subsetsBelow common difference allBelow bayLedgerOf bayNewYearOf totalsBytes toBits ofInt saveOf forgetOf lookup place put zeros leBytes leNumber tickBy checkOf checked read front commandOf distinct wellFormed before everyLabel labelsOf subset disjoint valid active activeLabels membersFrom declaredBy commands loopNesting signalNesting ceiling encodeState decodeState encodeAnswer expand reactBy errorsBy reactionsBy Sets.none only member join insert remove
+unfolding witnesses fromStart fresh over overfull waiting named full reached unrollOf copied unrolled bytesOf depthOf replayOf placeOf firstDifference same firstRecords recordsFrom boxAfter callOf emptyBox present partOf vacated filled wouldPass totalIn addedBelow deliveredBy ofBits ofFields odd whole inUnsigned toUnsigned bayTickOf following bayReleaseOf bayAdmitOf baySaveOf bayForgetOf bayRestoreOf bayServiceOf bayPanelOf panelOf bayPreviewOf previewOf findings gathered both subsetsBelow common difference allBelow bayLedgerOf bayNewYearOf totalsBytes toBits ofInt saveOf forgetOf lookup lastSuch put zeros leBytes leNumber tickBy checkOf checked read front commandOf distinct wellFormed before everyLabel labelsOf subset disjoint valid active activeLabels membersFrom declaredBy commands loopNesting signalNesting ceiling encodeState decodeState encodeAnswer expand reactBy errorsBy reactionsBy Sets.none only member join insert remove
 all-passable intake-check = refl
 all-passable intake-ceiling = refl
 all-passable intake-tick = refl
@@ -297,7 +297,7 @@ anyWitnesses intake-box-ledger = []
 anyWitnesses intake-box-new-year = beginsYear [] 0 ∷ []
 
 pub any-given : (name : CallName) → map (callGives (λ (box : List ℕ). box)) (anyWitnesses name) ≡ map some (alsoAnywhere name)
-unfolding anyWitnesses holding unrollOf copied unrolled bytesOf depthOf replayOf placeOf firstDifference same firstRecords recordsFrom boxAfter callOf emptyBox present partOf vacated filled wouldPass totalIn addedBelow deliveredBy ofBits ofFields odd whole inUnsigned toUnsigned bayTickOf following bayReleaseOf bayAdmitOf baySaveOf bayForgetOf bayRestoreOf bayServiceOf bayPanelOf panelOf bayPreviewOf previewOf findings gathered both subsetsBelow common difference allBelow bayLedgerOf bayNewYearOf totalsBytes toBits ofInt saveOf forgetOf lookup place put zeros leBytes leNumber tickBy checkOf checked read front commandOf distinct wellFormed before everyLabel labelsOf subset disjoint valid active activeLabels membersFrom declaredBy commands loopNesting signalNesting ceiling encodeState decodeState encodeAnswer expand reactBy errorsBy reactionsBy Sets.none only member join insert remove
+unfolding anyWitnesses holding unrollOf copied unrolled bytesOf depthOf replayOf placeOf firstDifference same firstRecords recordsFrom boxAfter callOf emptyBox present partOf vacated filled wouldPass totalIn addedBelow deliveredBy ofBits ofFields odd whole inUnsigned toUnsigned bayTickOf following bayReleaseOf bayAdmitOf baySaveOf bayForgetOf bayRestoreOf bayServiceOf bayPanelOf panelOf bayPreviewOf previewOf findings gathered both subsetsBelow common difference allBelow bayLedgerOf bayNewYearOf totalsBytes toBits ofInt saveOf forgetOf lookup lastSuch put zeros leBytes leNumber tickBy checkOf checked read front commandOf distinct wellFormed before everyLabel labelsOf subset disjoint valid active activeLabels membersFrom declaredBy commands loopNesting signalNesting ceiling encodeState decodeState encodeAnswer expand reactBy errorsBy reactionsBy Sets.none only member join insert remove
 any-given intake-check = refl
 any-given intake-ceiling = refl
 any-given intake-tick = refl
@@ -316,7 +316,7 @@ any-given intake-box-ledger = refl
 any-given intake-box-new-year = refl
 
 pub any-passable : (name : CallName) → map (passable (λ (box : List ℕ). box)) (anyWitnesses name) ≡ map (λ (n : ℕ). true) (alsoAnywhere name)
-unfolding anyWitnesses holding unrollOf copied unrolled bytesOf depthOf replayOf placeOf firstDifference same firstRecords recordsFrom boxAfter callOf emptyBox present partOf vacated filled wouldPass totalIn addedBelow deliveredBy ofBits ofFields odd whole inUnsigned toUnsigned bayTickOf following bayReleaseOf bayAdmitOf baySaveOf bayForgetOf bayRestoreOf bayServiceOf bayPanelOf panelOf bayPreviewOf previewOf findings gathered both subsetsBelow common difference allBelow bayLedgerOf bayNewYearOf totalsBytes toBits ofInt saveOf forgetOf lookup place put zeros leBytes leNumber tickBy checkOf checked read front commandOf distinct wellFormed before everyLabel labelsOf subset disjoint valid active activeLabels membersFrom declaredBy commands loopNesting signalNesting ceiling encodeState decodeState encodeAnswer expand reactBy errorsBy reactionsBy Sets.none only member join insert remove
+unfolding anyWitnesses holding unrollOf copied unrolled bytesOf depthOf replayOf placeOf firstDifference same firstRecords recordsFrom boxAfter callOf emptyBox present partOf vacated filled wouldPass totalIn addedBelow deliveredBy ofBits ofFields odd whole inUnsigned toUnsigned bayTickOf following bayReleaseOf bayAdmitOf baySaveOf bayForgetOf bayRestoreOf bayServiceOf bayPanelOf panelOf bayPreviewOf previewOf findings gathered both subsetsBelow common difference allBelow bayLedgerOf bayNewYearOf totalsBytes toBits ofInt saveOf forgetOf lookup lastSuch put zeros leBytes leNumber tickBy checkOf checked read front commandOf distinct wellFormed before everyLabel labelsOf subset disjoint valid active activeLabels membersFrom declaredBy commands loopNesting signalNesting ceiling encodeState decodeState encodeAnswer expand reactBy errorsBy reactionsBy Sets.none only member join insert remove
 any-passable intake-check = refl
 any-passable intake-ceiling = refl
 any-passable intake-tick = refl

@@ -16,13 +16,14 @@ use Rattle.spec_sequence.specs.Rows.{Spells}
 use Rattle.spec_tick.specs.StateRecord.{stateLength, phaseIn, labelsIn, encodeState}
 use Rattle.spec_base.specs.Parts.{put, zeros}
 use Rattle.spec_bay.specs.Names.{Position}
-use Rattle.spec_bay.specs.Table.{tableLength, lookup, numberKept, saveOf, forgetOf, SixteenKnown, Agrees}
+use Rattle.spec_bay.specs.Table.{tableLength, lookup, numberKept, saveOf, forgetOf, SixteenKnown}
+use Rattle.box_positions.specs.Places.{Agrees}
 use Rattle.box_positions.proofs.Theorems as table
 use Rattle.box_positions.proofs.Theorems.{cleared-agrees, save-agrees, forget-agrees, lookup-zeros}
 use Rattle.spec_bay.specs.Called.{called, number, memoryAfter}
 use Rattle.spec_bay.specs.Stretch.{stateAt, lengthIn, isEmpty, sequenceIn, stateIn, positionsIn, Terms}
 use Rattle.spec_box.specs.Box.{bayCount, boxLength, emptyBox, stretchOf, present, Call, admit, release, tick, save, restore, forget, service, panel, preview, ledger, newYear, buffers, bayCall, isFor, callOf}
-use Rattle.spec_box.specs.Lists.{Request, afterCall, boxAfter, Found, callsTo, inTurn}
+use Rattle.spec_box.specs.Lists.{Request, afterCall, boxAfter, CallIn, callsTo, inTurn}
 use Rattle.spec_box.specs.Shares.{Sendable, AllSendable, none, each}
 use Rattle.spec_box.specs.Positions.{changedBy, savedIn, NoneKnown}
 use Rattle.theory_box.proofs.Standing.{not-empty, sequence-held}
@@ -93,7 +94,7 @@ module _ {Box : Type 0} (after : Box → Request → Box) (bay : ℕ) (box : Box
   unfolding callsTo
   own-call = rw (eq-eqb bay bay refl)
 
-  pub own-turn : {A : Type 0} (makes : Found Box → A → A) (there : A)
+  pub own-turn : {A : Type 0} (makes : CallIn Box → A → A) (there : A)
       → inTurn makes there (callsTo after bay box (record { bay = bay; call = c } ∷ xs))
       ≡ inTurn makes (makes (record { box = box; call = c }) there) (callsTo after bay (after box asks) xs)
   own-turn makes there = ap (inTurn makes there) own-call

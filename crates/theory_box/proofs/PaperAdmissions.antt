@@ -24,7 +24,8 @@ use Rattle.spec_sequence.specs.Amounts.{amountSize, amountBytes}
 use Rattle.theory_tick.proofs.Sequence.{Accepted, accepted}
 use Rattle.numbers.proofs.Putting.{length-put, put-before}
 use Rattle.numbers.proofs.Zeros.{zeros-number}
-use Rattle.spec_bay.specs.Table.{tableLength, Agrees}
+use Rattle.spec_bay.specs.Table.{tableLength}
+use Rattle.box_positions.specs.Places.{Agrees}
 use Rattle.box_positions.proofs.Theorems.{cleared-agrees}
 use Rattle.spec_bay.specs.Ledgers as Ledgers
 use Rattle.spec_bay.specs.Ledgers.{farmCount, ledgerLength, readingLength, totalIn, totalsBytes, readingFor, readingOf}

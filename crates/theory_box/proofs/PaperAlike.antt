@@ -14,7 +14,7 @@ use Rattle.spec_sequence.specs.Program.{program}
 use Rattle.spec_tick.specs.StateRecord.{encodeState, Recorded}
 use Rattle.theory_tick.proofs.Sequence.{Accepted}
 use Rattle.spec_bay.specs.Names.{Position}
-use Rattle.spec_bay.specs.Table.{Agrees}
+use Rattle.box_positions.specs.Places.{Agrees}
 use Rattle.spec_bay.specs.Ledgers.{farmCount, totalIn}
 use Rattle.spec_bay.specs.Called.{Called, called, number, memoryAfter, first}
 use Rattle.spec_bay.specs.Stretch.{stretchLength, lengthIn, stateIn, lastNumberIn, positionsIn, ledgerIn, Terms}

@@ -19,7 +19,8 @@ use Rattle.records.proofs.StateLaws.{length-state}
 use Rattle.spec_base.specs.Parts.{put}
 use Rattle.numbers.proofs.Putting.{put-before, put-behind}
 use Rattle.spec_bay.specs.Names.{Position, position, find, without, isKnown, Answered, answered, saveNamed, forgetNamed, numberAnswered, positionsAfter}
-use Rattle.spec_bay.specs.Table.{lookup, kept, numberKept, tableKept, saveOf, forgetOf, Agrees}
+use Rattle.spec_bay.specs.Table.{lookup, kept, numberKept, tableKept, saveOf, forgetOf}
+use Rattle.box_positions.specs.Places.{Agrees}
 use Rattle.box_positions.proofs.Theorems.{save-agrees, forget-agrees}
 use Rattle.spec_bay.specs.Ledgers.{totalIn}
 use Rattle.spec_tick.specs.Record.{recordLength, panelLength, panelOf}

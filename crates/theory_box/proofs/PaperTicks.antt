@@ -23,7 +23,7 @@ use Rattle.spec_tick.specs.Record.{recordLength, recordOf}
 use Rattle.spec_tick.specs.Recording.{following}
 use Rattle.records.proofs.Theorems.{following-is}
 use Rattle.numbers.proofs.Putting.{slot-put}
-use Rattle.spec_bay.specs.Table.{Agrees}
+use Rattle.box_positions.specs.Places.{Agrees}
 use Rattle.spec_bay.specs.Ledgers.{farmCount, wouldPass, passes}
 use Rattle.spec_tick.specs.Tick.{Outcome, outcome, tickOf}
 use Rattle.spec_tick.specs.Demands as demands

@@ -24,7 +24,8 @@ use Rattle.numbers.proofs.Putting.{slot-put, put-before, put-behind}
 use Rattle.spec_bay.specs.Ledgers as Ledgers
 use Rattle.spec_bay.specs.Ledgers.{ledgerLength}
 use Rattle.box_ledgers.proofs.Theorems.{cleared-sized}
-use Rattle.spec_bay.specs.Table.{tableLength, lookup, Kept, kept, numberKept, tableKept, saveOf, forgetOf, Formed}
+use Rattle.spec_bay.specs.Table.{tableLength, lookup, Kept, kept, numberKept, tableKept, saveOf, forgetOf}
+use Rattle.box_positions.specs.Places.{Formed}
 use Rattle.box_positions.proofs.Theorems.{lookup-saved, lookup-others-saved, lookup-forgotten, lookup-others-forgotten, lookup-zeros, formed-zeros, formed-saved, formed-forgotten, save-refused}
 use Rattle.box_positions.proofs.TableLaws.{save-sized, forget-sized}
 use Rattle.theory_tick.proofs.Sequence.{accepted, same-statement}

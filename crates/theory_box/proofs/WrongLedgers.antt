@@ -24,7 +24,7 @@ use Rattle.spec_base.specs.Bytes.{leBytes, leNumber}
 use Rattle.spec_tick.specs.StateRecord.{encodeState, decodeState}
 use Rattle.spec_tick.specs.AnswerRecord.{encodeAnswer, answerLength}
 use Rattle.spec_base.specs.Parts.{put, zeros}
-use Rattle.spec_bay.specs.Table.{place, lookup, saveOf, forgetOf}
+use Rattle.spec_bay.specs.Table.{lastSuch, lookup, saveOf, forgetOf}
 use Rattle.spec_bay.specs.Ledgers.{totalIn, totalsBytes, wouldPass, addedBelow}
 use Rattle.spec_tick.specs.Tick.{tickBy}
 use Rattle.spec_tick.specs.Record.{recordLength}
@@ -44,22 +44,22 @@ abbrev back : List Request
 back = admitted 0 fiveOnce ∷ ticked 0 ∷ saved 0 1 ∷ backTo 0 1 ∷ []
 
 pub not-rewinds : ¬ TotalsExact rewinds
-unfolding boxAfter deliveredSince callOf emptyBox present partOf vacated filled wouldPass totalIn addedBelow deliveredBy ofBits whole inUnsigned toUnsigned bayTickOf following bayReleaseOf bayAdmitOf baySaveOf bayForgetOf bayRestoreOf saveOf forgetOf lookup place put zeros leBytes leNumber tickBy checked read front commandOf distinct wellFormed before everyLabel labelsOf subset disjoint valid active activeLabels membersFrom declaredBy commands loopNesting signalNesting ceiling encodeState decodeState encodeAnswer expand reactBy errorsBy reactionsBy Sets.none only member join insert remove totalsBytes toBits ofInt callsTo
+unfolding boxAfter deliveredSince callOf emptyBox present partOf vacated filled wouldPass totalIn addedBelow deliveredBy ofBits whole inUnsigned toUnsigned bayTickOf following bayReleaseOf bayAdmitOf baySaveOf bayForgetOf bayRestoreOf saveOf forgetOf lookup lastSuch put zeros leBytes leNumber tickBy checked read front commandOf distinct wellFormed before everyLabel labelsOf subset disjoint valid active activeLabels membersFrom declaredBy commands loopNesting signalNesting ceiling encodeState decodeState encodeAnswer expand reactBy errorsBy reactionsBy Sets.none only member join insert remove totalsBytes toBits ofInt callsTo
 not-rewinds h = let e : _≡_ {A = ℕ} 0 5 = h back 0 (omega arith) 2 (omega arith) .is-sum in omega arith
 
 -- ---- 5 litres in a wrong instant
 pub not-entersWrong : ¬ TotalsExact entersWrong
-unfolding boxAfter deliveredSince callOf emptyBox present partOf vacated filled wouldPass totalIn addedBelow deliveredBy ofBits whole inUnsigned toUnsigned bayTickOf following bayReleaseOf bayAdmitOf baySaveOf bayForgetOf bayRestoreOf saveOf forgetOf lookup place put zeros leBytes leNumber tickBy checked read front commandOf distinct wellFormed before everyLabel labelsOf subset disjoint valid active activeLabels membersFrom declaredBy commands loopNesting signalNesting ceiling encodeState decodeState encodeAnswer expand reactBy errorsBy reactionsBy Sets.none only member join insert remove totalsBytes toBits ofInt callsTo
+unfolding boxAfter deliveredSince callOf emptyBox present partOf vacated filled wouldPass totalIn addedBelow deliveredBy ofBits whole inUnsigned toUnsigned bayTickOf following bayReleaseOf bayAdmitOf baySaveOf bayForgetOf bayRestoreOf saveOf forgetOf lookup lastSuch put zeros leBytes leNumber tickBy checked read front commandOf distinct wellFormed before everyLabel labelsOf subset disjoint valid active activeLabels membersFrom declaredBy commands loopNesting signalNesting ceiling encodeState decodeState encodeAnswer expand reactBy errorsBy reactionsBy Sets.none only member join insert remove totalsBytes toBits ofInt callsTo
 not-entersWrong h = let e : _≡_ {A = ℕ} 5 0 = h inVain 0 (omega arith) 2 (omega arith) .is-sum in omega arith
 
 -- ---- 5 litres in the one run, 7 in the one that answers
 pub not-entersBoth : ¬ TotalsExact entersBoth
-unfolding boxAfter deliveredSince callOf emptyBox present partOf vacated filled wouldPass totalIn addedBelow deliveredBy ofBits whole inUnsigned toUnsigned bayTickOf following bayReleaseOf bayAdmitOf baySaveOf bayForgetOf bayRestoreOf saveOf forgetOf lookup place put zeros leBytes leNumber tickBy checked read front commandOf distinct wellFormed before everyLabel labelsOf subset disjoint valid active activeLabels membersFrom declaredBy commands loopNesting signalNesting ceiling encodeState decodeState encodeAnswer expand reactBy errorsBy reactionsBy Sets.none only member join insert remove totalsBytes toBits ofInt callsTo
+unfolding boxAfter deliveredSince callOf emptyBox present partOf vacated filled wouldPass totalIn addedBelow deliveredBy ofBits whole inUnsigned toUnsigned bayTickOf following bayReleaseOf bayAdmitOf baySaveOf bayForgetOf bayRestoreOf saveOf forgetOf lookup lastSuch put zeros leBytes leNumber tickBy checked read front commandOf distinct wellFormed before everyLabel labelsOf subset disjoint valid active activeLabels membersFrom declaredBy commands loopNesting signalNesting ceiling encodeState decodeState encodeAnswer expand reactBy errorsBy reactionsBy Sets.none only member join insert remove totalsBytes toBits ofInt callsTo
 not-entersBoth h = let e : _≡_ {A = ℕ} 12 7 = h chosenRun 0 (omega arith) 2 (omega arith) .is-sum in omega arith
 
 -- ---- 16,777,215 litres, and two more
 pub not-entersTurnedDown : ¬ TotalsExact entersTurnedDown
-unfolding boxAfter deliveredSince callOf emptyBox present partOf vacated filled wouldPass totalIn addedBelow deliveredBy ofBits whole inUnsigned toUnsigned bayTickOf following bayReleaseOf bayAdmitOf baySaveOf bayForgetOf bayRestoreOf saveOf forgetOf lookup place put zeros leBytes leNumber tickBy checked read front commandOf distinct wellFormed before everyLabel labelsOf subset disjoint valid active activeLabels membersFrom declaredBy commands loopNesting signalNesting ceiling encodeState decodeState encodeAnswer expand reactBy errorsBy reactionsBy Sets.none only member join insert remove totalsBytes toBits ofInt callsTo
+unfolding boxAfter deliveredSince callOf emptyBox present partOf vacated filled wouldPass totalIn addedBelow deliveredBy ofBits whole inUnsigned toUnsigned bayTickOf following bayReleaseOf bayAdmitOf baySaveOf bayForgetOf bayRestoreOf saveOf forgetOf lookup lastSuch put zeros leBytes leNumber tickBy checked read front commandOf distinct wellFormed before everyLabel labelsOf subset disjoint valid active activeLabels membersFrom declaredBy commands loopNesting signalNesting ceiling encodeState decodeState encodeAnswer expand reactBy errorsBy reactionsBy Sets.none only member join insert remove totalsBytes toBits ofInt callsTo
 not-entersTurnedDown h = let e : _≡_ {A = ℕ} 16777216 16777215 = h overfull 0 (omega arith) 2 (omega arith) .is-sum in omega arith
 
 -- ---- 16,777,216 litres, and one more
@@ -67,7 +67,7 @@ abbrev full : List Request
 full = admitted 0 oneTooMany ∷ ticked 0 ∷ []
 
 pub not-testsInSingles : ¬ Nineteen testsInSingles
-unfolding boxAfter deliveredSince callOf emptyBox present partOf vacated filled wouldPass totalIn addedBelow deliveredBy ofBits whole inUnsigned toUnsigned bayTickOf following bayReleaseOf bayAdmitOf baySaveOf bayForgetOf bayRestoreOf saveOf forgetOf lookup place put zeros leBytes leNumber tickBy checked read front commandOf distinct wellFormed before everyLabel labelsOf subset disjoint valid active activeLabels membersFrom declaredBy commands loopNesting signalNesting ceiling encodeState decodeState encodeAnswer expand reactBy errorsBy reactionsBy Sets.none only member join insert remove totalsBytes toBits ofInt passesInSingles add callsTo
+unfolding boxAfter deliveredSince callOf emptyBox present partOf vacated filled wouldPass totalIn addedBelow deliveredBy ofBits whole inUnsigned toUnsigned bayTickOf following bayReleaseOf bayAdmitOf baySaveOf bayForgetOf bayRestoreOf saveOf forgetOf lookup lastSuch put zeros leBytes leNumber tickBy checked read front commandOf distinct wellFormed before everyLabel labelsOf subset disjoint valid active activeLabels membersFrom declaredBy commands loopNesting signalNesting ceiling encodeState decodeState encodeAnswer expand reactBy errorsBy reactionsBy Sets.none only member join insert remove totalsBytes toBits ofInt passesInSingles add callsTo
 not-testsInSingles h =
     let box : List ℕ = boxAfter callOf emptyBox full in
     let past : 16777216 < 16777217 = omega arith in

@@ -32,7 +32,7 @@ use Rattle.spec_tick.specs.StateRecord.{encodeState, decodeState}
 use Rattle.spec_tick.specs.AnswerRecord.{codeIn, emittedIn, encodeAnswer}
 use Rattle.spec_base.specs.Parts.{put, zeros}
 use Rattle.spec_bay.specs.Names.{find, without, saveNamed}
-use Rattle.spec_bay.specs.Table.{saveOf, forgetOf, lookup, place}
+use Rattle.spec_bay.specs.Table.{saveOf, forgetOf, lookup, lastSuch}
 use Rattle.spec_bay.specs.Ledgers.{readingLength, fieldIn, totalIn, totalsBytes, wouldPass, addedBelow}
 use Rattle.spec_tick.specs.Tick.{tickBy}
 use Rattle.spec_tick.specs.Recording.{following}
@@ -132,7 +132,7 @@ plain-back =
     (other instant _ refl (other (save 1) _ refl (other instant _ refl (other (save 2) _ refl (other (restore 1) _ refl (other instant _ refl no-call))))))
 
 pub not-changesSequence : (¬ OnPaper changesSequence) × (¬ ByLabelSets changesSequence)
-unfolding reports paperReports presentOn find without saveNamed callOf emptyBox present partOf vacated filled wouldPass totalIn addedBelow deliveredBy ofBits whole inUnsigned toUnsigned bayTickOf following bayReleaseOf bayAdmitOf baySaveOf bayRestoreOf bayLedgerOf saveOf lookup place put zeros totalsBytes ordered add toBits ofInt leBytes leNumber tickBy checked read front commandOf distinct wellFormed before everyLabel labelsOf subset disjoint valid active activeLabels membersFrom declaredBy commands loopNesting signalNesting ceiling encodeState decodeState encodeAnswer expand reactBy errorsBy reactionsBy Sets.none only member join insert remove
+unfolding reports paperReports presentOn find without saveNamed callOf emptyBox present partOf vacated filled wouldPass totalIn addedBelow deliveredBy ofBits whole inUnsigned toUnsigned bayTickOf following bayReleaseOf bayAdmitOf baySaveOf bayRestoreOf bayLedgerOf saveOf lookup lastSuch put zeros totalsBytes ordered add toBits ofInt leBytes leNumber tickBy checked read front commandOf distinct wellFormed before everyLabel labelsOf subset disjoint valid active activeLabels membersFrom declaredBy commands loopNesting signalNesting ceiling encodeState decodeState encodeAnswer expand reactBy errorsBy reactionsBy Sets.none only member join insert remove
 not-changesSequence = (
   λ h. let e : _≡_ {A = ℕ} 2 1 = ap (λ (rs : List (Reported InstantTold)). emittedOf (reportAt 6 rs)) (h backBefore sent-back plain-back) in omega arith,
   λ h. let e : _≡_ {A = ℕ} 2 1 = ap (λ (rs : List (Reported (List (List ℕ)))). emittedIn (bufferAt 6 rs)) (h backBefore sent-back) in omega arith,
@@ -151,7 +151,7 @@ plain-out : Admitting NoSetpause takenOut
 plain-out = admitting 0 (alone deliversFive) _ delivers-plain (other instant _ refl (other release _ refl (other reading _ refl no-call)))
 
 pub not-forgetsAtRelease : (¬ OnPaper forgetsAtRelease) × (¬ ByLabelSets forgetsAtRelease)
-unfolding reports paperReports presentOn find without saveNamed callOf emptyBox present partOf vacated filled wouldPass totalIn addedBelow deliveredBy ofBits whole inUnsigned toUnsigned bayTickOf following bayReleaseOf bayAdmitOf baySaveOf bayRestoreOf bayLedgerOf saveOf lookup place put zeros totalsBytes ordered add toBits ofInt leBytes leNumber tickBy checked read front commandOf distinct wellFormed before everyLabel labelsOf subset disjoint valid active activeLabels membersFrom declaredBy commands loopNesting signalNesting ceiling encodeState decodeState encodeAnswer expand reactBy errorsBy reactionsBy Sets.none only member join insert remove
+unfolding reports paperReports presentOn find without saveNamed callOf emptyBox present partOf vacated filled wouldPass totalIn addedBelow deliveredBy ofBits whole inUnsigned toUnsigned bayTickOf following bayReleaseOf bayAdmitOf baySaveOf bayRestoreOf bayLedgerOf saveOf lookup lastSuch put zeros totalsBytes ordered add toBits ofInt leBytes leNumber tickBy checked read front commandOf distinct wellFormed before everyLabel labelsOf subset disjoint valid active activeLabels membersFrom declaredBy commands loopNesting signalNesting ceiling encodeState decodeState encodeAnswer expand reactBy errorsBy reactionsBy Sets.none only member join insert remove
 not-forgetsAtRelease = (
   λ h. let e : _≡_ {A = ℕ} 0 0xA0 = ap (λ (rs : List (Reported InstantTold)). getD (shownAt 3 rs) 10 0) (h takenOut sent-out plain-out) in omega arith,
   λ h. let e : _≡_ {A = ℕ} 0 0xA0 = ap (λ (rs : List (Reported (List (List ℕ)))). getD (bufferAt 3 rs) 10 0) (h takenOut sent-out) in omega arith,
@@ -174,7 +174,7 @@ plain-beside =
     (admitting 0 (alone waitsIfRead) _ (waits-plain 0 refl refl) (other instant _ refl no-call))
 
 pub not-readsBackNeighbour : (¬ OnPaper readsBackNeighbour) × (¬ ByLabelSets readsBackNeighbour)
-unfolding reports paperReports presentOn find without saveNamed callOf emptyBox present partOf vacated filled wouldPass totalIn addedBelow deliveredBy ofBits whole inUnsigned toUnsigned bayTickOf following bayReleaseOf bayAdmitOf baySaveOf bayRestoreOf bayLedgerOf saveOf lookup place put zeros totalsBytes ordered add toBits ofInt leBytes leNumber tickBy checked read front commandOf distinct wellFormed before everyLabel labelsOf subset disjoint valid active activeLabels membersFrom declaredBy commands loopNesting signalNesting ceiling encodeState decodeState encodeAnswer expand reactBy errorsBy reactionsBy Sets.none only member join insert remove
+unfolding reports paperReports presentOn find without saveNamed callOf emptyBox present partOf vacated filled wouldPass totalIn addedBelow deliveredBy ofBits whole inUnsigned toUnsigned bayTickOf following bayReleaseOf bayAdmitOf baySaveOf bayRestoreOf bayLedgerOf saveOf lookup lastSuch put zeros totalsBytes ordered add toBits ofInt leBytes leNumber tickBy checked read front commandOf distinct wellFormed before everyLabel labelsOf subset disjoint valid active activeLabels membersFrom declaredBy commands loopNesting signalNesting ceiling encodeState decodeState encodeAnswer expand reactBy errorsBy reactionsBy Sets.none only member join insert remove
 not-readsBackNeighbour = (
   λ h. let e : _≡_ {A = ℕ} 1 0 = ap (λ (rs : List (Reported InstantTold)). codeOf (reportAt 2 rs)) (h besideReader sent-beside plain-beside) in omega arith,
   λ h. let e : _≡_ {A = ℕ} 1 0 = ap (λ (rs : List (Reported (List (List ℕ)))). codeIn (bufferAt 2 rs)) (h besideReader sent-beside) in omega arith,
@@ -193,14 +193,14 @@ plain-behind : Admitting NoSetpause backBehind
 plain-behind = admitting 0 (alone delivered) _ delivered-plain (other instant _ refl (other (save 1) _ refl (other (restore 1) _ refl (other reading _ refl no-call))))
 
 pub not-rewinds-on-paper : (¬ OnPaper rewinds) × (¬ ByLabelSets rewinds)
-unfolding reports paperReports presentOn find without saveNamed callOf emptyBox present partOf vacated filled wouldPass totalIn addedBelow deliveredBy ofBits whole inUnsigned toUnsigned bayTickOf following bayReleaseOf bayAdmitOf baySaveOf bayRestoreOf bayLedgerOf saveOf lookup place put zeros totalsBytes ordered add toBits ofInt leBytes leNumber tickBy checked read front commandOf distinct wellFormed before everyLabel labelsOf subset disjoint valid active activeLabels membersFrom declaredBy commands loopNesting signalNesting ceiling encodeState decodeState encodeAnswer expand reactBy errorsBy reactionsBy Sets.none only member join insert remove
+unfolding reports paperReports presentOn find without saveNamed callOf emptyBox present partOf vacated filled wouldPass totalIn addedBelow deliveredBy ofBits whole inUnsigned toUnsigned bayTickOf following bayReleaseOf bayAdmitOf baySaveOf bayRestoreOf bayLedgerOf saveOf lookup lastSuch put zeros totalsBytes ordered add toBits ofInt leBytes leNumber tickBy checked read front commandOf distinct wellFormed before everyLabel labelsOf subset disjoint valid active activeLabels membersFrom declaredBy commands loopNesting signalNesting ceiling encodeState decodeState encodeAnswer expand reactBy errorsBy reactionsBy Sets.none only member join insert remove
 not-rewinds-on-paper = (
   λ h. let e : _≡_ {A = ℕ} 0 0xA0 = ap (λ (rs : List (Reported InstantTold)). getD (shownAt 4 rs) 10 0) (h backBehind sent-behind plain-behind) in omega arith,
   λ h. let e : _≡_ {A = ℕ} 0 0xA0 = ap (λ (rs : List (Reported (List (List ℕ)))). getD (bufferAt 4 rs) 10 0) (h backBehind sent-behind) in omega arith,
 )
 
 pub not-rewinds-certified : (¬ ReadingsCertified rewinds) × (¬ ReadingsCertifiedByLabels rewinds)
-unfolding reports paperReports presentOn find without saveNamed callOf emptyBox present partOf vacated filled wouldPass totalIn addedBelow deliveredBy ofBits whole inUnsigned toUnsigned bayTickOf following bayReleaseOf bayAdmitOf baySaveOf bayRestoreOf bayLedgerOf saveOf lookup place put zeros totalsBytes ordered add toBits ofInt leBytes leNumber tickBy checked read front commandOf distinct wellFormed before everyLabel labelsOf subset disjoint valid active activeLabels membersFrom declaredBy commands loopNesting signalNesting ceiling encodeState decodeState encodeAnswer expand reactBy errorsBy reactionsBy Sets.none only member join insert remove boxAfter deliveriesOver sumOf callsTo
+unfolding reports paperReports presentOn find without saveNamed callOf emptyBox present partOf vacated filled wouldPass totalIn addedBelow deliveredBy ofBits whole inUnsigned toUnsigned bayTickOf following bayReleaseOf bayAdmitOf baySaveOf bayRestoreOf bayLedgerOf saveOf lookup lastSuch put zeros totalsBytes ordered add toBits ofInt leBytes leNumber tickBy checked read front commandOf distinct wellFormed before everyLabel labelsOf subset disjoint valid active activeLabels membersFrom declaredBy commands loopNesting signalNesting ceiling encodeState decodeState encodeAnswer expand reactBy errorsBy reactionsBy Sets.none only member join insert remove boxAfter deliveriesOver sumOf callsTo
 not-rewinds-certified =
     let bytes : List ℕ = first (lentAfter (rewinds (boxAfter rewinds emptyBox backBehind) 0 reading)) in
     let x : Float = fieldIn 2 bytes in (
@@ -214,14 +214,14 @@ not-rewinds-certified =
 
 -- ---- no certificate: a ledger that nobody can read, and instants that tell the plant nothing
 pub not-hidesLedger : (¬ Certificate hidesLedger) × (¬ CertificateByLabels hidesLedger)
-unfolding reports paperReports presentOn find without saveNamed callOf emptyBox present partOf vacated filled wouldPass totalIn addedBelow deliveredBy ofBits whole inUnsigned toUnsigned bayTickOf following bayReleaseOf bayAdmitOf baySaveOf bayRestoreOf bayLedgerOf saveOf lookup place put zeros totalsBytes ordered add toBits ofInt leBytes leNumber tickBy checked read front commandOf distinct wellFormed before everyLabel labelsOf subset disjoint valid active activeLabels membersFrom declaredBy commands loopNesting signalNesting ceiling encodeState decodeState encodeAnswer expand reactBy errorsBy reactionsBy Sets.none only member join insert remove boxAfter
+unfolding reports paperReports presentOn find without saveNamed callOf emptyBox present partOf vacated filled wouldPass totalIn addedBelow deliveredBy ofBits whole inUnsigned toUnsigned bayTickOf following bayReleaseOf bayAdmitOf baySaveOf bayRestoreOf bayLedgerOf saveOf lookup lastSuch put zeros totalsBytes ordered add toBits ofInt leBytes leNumber tickBy checked read front commandOf distinct wellFormed before everyLabel labelsOf subset disjoint valid active activeLabels membersFrom declaredBy commands loopNesting signalNesting ceiling encodeState decodeState encodeAnswer expand reactBy errorsBy reactionsBy Sets.none only member join insert remove boxAfter
 not-hidesLedger = (
   λ h. let e : _≡_ {A = ℕ} 1 0 = h .readable [] 0 (omega arith) (replicate readingLength 0) refl in omega arith,
   λ h. let e : _≡_ {A = ℕ} 1 0 = h .readable [] 0 (omega arith) (replicate readingLength 0) refl in omega arith,
 )
 
 pub not-tellsNothing : (¬ Certificate tellsNothing) × (¬ CertificateByLabels tellsNothing)
-unfolding reports paperReports presentOn find without saveNamed callOf emptyBox present partOf vacated filled wouldPass totalIn addedBelow deliveredBy ofBits whole inUnsigned toUnsigned bayTickOf following bayReleaseOf bayAdmitOf baySaveOf bayRestoreOf bayLedgerOf saveOf lookup place put zeros totalsBytes ordered add toBits ofInt leBytes leNumber tickBy checked read front commandOf distinct wellFormed before everyLabel labelsOf subset disjoint valid active activeLabels membersFrom declaredBy commands loopNesting signalNesting ceiling encodeState decodeState encodeAnswer expand reactBy errorsBy reactionsBy Sets.none only member join insert remove
+unfolding reports paperReports presentOn find without saveNamed callOf emptyBox present partOf vacated filled wouldPass totalIn addedBelow deliveredBy ofBits whole inUnsigned toUnsigned bayTickOf following bayReleaseOf bayAdmitOf baySaveOf bayRestoreOf bayLedgerOf saveOf lookup lastSuch put zeros totalsBytes ordered add toBits ofInt leBytes leNumber tickBy checked read front commandOf distinct wellFormed before everyLabel labelsOf subset disjoint valid active activeLabels membersFrom declaredBy commands loopNesting signalNesting ceiling encodeState decodeState encodeAnswer expand reactBy errorsBy reactionsBy Sets.none only member join insert remove
 not-tellsNothing = (
   λ h. let e : _≡_ {A = ℕ} 0 4 = ap (λ (rs : List (Reported InstantTold)). emittedOf (reportAt 1 rs)) (h .on-paper takenOut sent-out plain-out) in omega arith,
   λ h. let e : _≡_ {A = ℕ} 0 4 = ap (λ (rs : List (Reported (List (List ℕ)))). emittedIn (bufferAt 1 rs)) (h .by-labels takenOut sent-out) in omega arith,

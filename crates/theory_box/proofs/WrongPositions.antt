@@ -28,7 +28,8 @@ use Rattle.spec_tick.specs.AnswerRecord.{emittedIn, encodeAnswer}
 use Rattle.spec_base.specs.Parts.{put, zeros}
 use Rattle.spec_bay.specs.Names as Names
 use Rattle.spec_bay.specs.Names.{find, saveNamed}
-use Rattle.spec_bay.specs.Table.{place, lookup, saveOf, forgetOf, namesBelow}
+use Rattle.spec_bay.specs.Table.{lastSuch, lookup, saveOf, forgetOf}
+use Rattle.box_positions.specs.Places.{namesBelow}
 use Rattle.spec_bay.specs.Ledgers.{totalIn, wouldPass, addedBelow}
 use Rattle.spec_tick.specs.Tick.{Outcome, outcome, tickBy, tickOf}
 use Rattle.spec_tick.specs.Demands.{outcomes}
@@ -58,7 +59,7 @@ abbrev one : List Request
 one = admitted 0 twoStages ∷ ticked 0 ∷ saved 0 1 ∷ []
 
 pub not-keepsPositions : ¬ LosesPositions keepsPositions
-unfolding boxAfter callOf emptyBox present partOf vacated filled wouldPass totalIn addedBelow deliveredBy ofBits whole inUnsigned toUnsigned bayTickOf following bayReleaseOf bayAdmitOf baySaveOf bayForgetOf bayRestoreOf saveOf forgetOf lookup place put zeros leBytes leNumber tickBy checked read front commandOf distinct wellFormed before everyLabel labelsOf subset disjoint valid active activeLabels membersFrom declaredBy commands loopNesting signalNesting ceiling encodeState decodeState encodeAnswer expand reactBy errorsBy reactionsBy Sets.none only member join insert remove
+unfolding boxAfter callOf emptyBox present partOf vacated filled wouldPass totalIn addedBelow deliveredBy ofBits whole inUnsigned toUnsigned bayTickOf following bayReleaseOf bayAdmitOf baySaveOf bayForgetOf bayRestoreOf saveOf forgetOf lookup lastSuch put zeros leBytes leNumber tickBy checked read front commandOf distinct wellFormed before everyLabel labelsOf subset disjoint valid active activeLabels membersFrom declaredBy commands loopNesting signalNesting ceiling encodeState decodeState encodeAnswer expand reactBy errorsBy reactionsBy Sets.none only member join insert remove
 not-keepsPositions h =
     let e : _≡_ {A = ℕ} 1 0 = ap labelsOrNone (h (boxAfter callOf emptyBox one) 0 .0 refl 1) in omega arith
 
@@ -67,7 +68,7 @@ abbrev replaced : List Request
 replaced = admitted 0 twoStages ∷ ticked 0 ∷ saved 0 1 ∷ ticked 0 ∷ saved 0 1 ∷ []
 
 pub not-keepsFirst : ¬ PositionsSaved keepsFirst
-unfolding savedIn saveNamed find Names.without boxAfter callOf emptyBox present partOf vacated filled wouldPass totalIn addedBelow deliveredBy ofBits whole inUnsigned toUnsigned bayTickOf following bayReleaseOf bayAdmitOf baySaveOf bayForgetOf bayRestoreOf saveOf forgetOf lookup place put zeros leBytes leNumber tickBy checked read front commandOf distinct wellFormed before everyLabel labelsOf subset disjoint valid active activeLabels membersFrom declaredBy commands loopNesting signalNesting ceiling encodeState decodeState encodeAnswer expand reactBy errorsBy reactionsBy Sets.none only member join insert remove callsTo
+unfolding savedIn saveNamed find Names.without boxAfter callOf emptyBox present partOf vacated filled wouldPass totalIn addedBelow deliveredBy ofBits whole inUnsigned toUnsigned bayTickOf following bayReleaseOf bayAdmitOf baySaveOf bayForgetOf bayRestoreOf saveOf forgetOf lookup lastSuch put zeros leBytes leNumber tickBy checked read front commandOf distinct wellFormed before everyLabel labelsOf subset disjoint valid active activeLabels membersFrom declaredBy commands loopNesting signalNesting ceiling encodeState decodeState encodeAnswer expand reactBy errorsBy reactionsBy Sets.none only member join insert remove callsTo
 not-keepsFirst h =
     let a : 0 < 4294967296 = omega arith in
     let b : 1 < 4294967296 = omega arith in
@@ -79,7 +80,7 @@ abbrev over : List Request
 over = one ++ (ticked 0 ∷ ticked 0 ∷ [])
 
 pub not-leavesPhase : ¬ ComesBack leavesPhase
-unfolding boxAfter callOf emptyBox present partOf vacated filled wouldPass totalIn addedBelow deliveredBy ofBits whole inUnsigned toUnsigned bayTickOf following bayReleaseOf bayAdmitOf baySaveOf bayForgetOf bayRestoreOf saveOf forgetOf lookup place put zeros leBytes leNumber tickBy checked read front commandOf distinct wellFormed before everyLabel labelsOf subset disjoint valid active activeLabels membersFrom declaredBy commands loopNesting signalNesting ceiling encodeState decodeState encodeAnswer expand reactBy errorsBy reactionsBy Sets.none only member join insert remove
+unfolding boxAfter callOf emptyBox present partOf vacated filled wouldPass totalIn addedBelow deliveredBy ofBits whole inUnsigned toUnsigned bayTickOf following bayReleaseOf bayAdmitOf baySaveOf bayForgetOf bayRestoreOf saveOf forgetOf lookup lastSuch put zeros leBytes leNumber tickBy checked read front commandOf distinct wellFormed before everyLabel labelsOf subset disjoint valid active activeLabels membersFrom declaredBy commands loopNesting signalNesting ceiling encodeState decodeState encodeAnswer expand reactBy errorsBy reactionsBy Sets.none only member join insert remove
 not-leavesPhase h =
     let e : _≡_ {A = ℕ} 2 1 = ap (λ (s : List ℕ). phaseIn (stateIn s)) (h (boxAfter callOf emptyBox over) 0 1 refl .2) in omega arith
 
@@ -96,7 +97,7 @@ abbrev fullAndOver : List Request
 fullAndOver = admitted 0 twoStages ∷ ticked 0 ∷ saves 16 (ticked 0 ∷ ticked 0 ∷ [])
 
 pub not-fullFirst : ¬ InBoxes fullFirst (SaveNumbers fullFirst)
-unfolding boxAfter callOf emptyBox present partOf vacated filled wouldPass totalIn addedBelow deliveredBy ofBits whole inUnsigned toUnsigned bayTickOf following bayReleaseOf bayAdmitOf baySaveOf bayForgetOf bayRestoreOf saveOf forgetOf lookup place namesBelow put zeros leBytes leNumber tickBy checked read front commandOf distinct wellFormed before everyLabel labelsOf subset disjoint valid active activeLabels membersFrom declaredBy commands loopNesting signalNesting ceiling encodeState decodeState encodeAnswer expand reactBy errorsBy reactionsBy Sets.none only member join insert remove
+unfolding boxAfter callOf emptyBox present partOf vacated filled wouldPass totalIn addedBelow deliveredBy ofBits whole inUnsigned toUnsigned bayTickOf following bayReleaseOf bayAdmitOf baySaveOf bayForgetOf bayRestoreOf saveOf forgetOf lookup lastSuch namesBelow put zeros leBytes leNumber tickBy checked read front commandOf distinct wellFormed before everyLabel labelsOf subset disjoint valid active activeLabels membersFrom declaredBy commands loopNesting signalNesting ceiling encodeState decodeState encodeAnswer expand reactBy errorsBy reactionsBy Sets.none only member join insert remove
 not-fullFirst h =
     let k : 0 < 4294967296 = omega arith in
     let sets : (0 < 4294967296) × (0 < 4294967296) = (k, k) in
@@ -127,7 +128,7 @@ stays : NotTakenOut changesEmission 0 opened bothSaved
 stays = tick-stays opened _ (saving-stays 1 _ _ (tick-stays _ _ (saving-stays 2 _ _ NotTakenOut.done)))
 
 pub not-changesEmission : ¬ TermsFixed changesEmission
-unfolding boxAfter callOf emptyBox present partOf vacated filled wouldPass totalIn addedBelow deliveredBy ofBits whole inUnsigned toUnsigned bayTickOf following bayReleaseOf bayAdmitOf baySaveOf bayForgetOf bayRestoreOf saveOf forgetOf lookup place put zeros leBytes leNumber tickBy checked read front commandOf distinct wellFormed before everyLabel labelsOf subset disjoint valid active activeLabels membersFrom declaredBy commands loopNesting signalNesting ceiling encodeState decodeState encodeAnswer expand reactBy errorsBy reactionsBy Sets.none only member join insert remove
+unfolding boxAfter callOf emptyBox present partOf vacated filled wouldPass totalIn addedBelow deliveredBy ofBits whole inUnsigned toUnsigned bayTickOf following bayReleaseOf bayAdmitOf baySaveOf bayForgetOf bayRestoreOf saveOf forgetOf lookup lastSuch put zeros leBytes leNumber tickBy checked read front commandOf distinct wellFormed before everyLabel labelsOf subset disjoint valid active activeLabels membersFrom declaredBy commands loopNesting signalNesting ceiling encodeState decodeState encodeAnswer expand reactBy errorsBy reactionsBy Sets.none only member join insert remove
 not-changesEmission h =
     let small : (0 < 4294967296) × (0 < 4294967296) = (omega arith, omega arith) in
     let e : _≡_ {A = ℕ} 9 8 = ap (λ (t : Terms). getD (t .sequence) 5 0) (h emptyBox 0 eight small refl bothSaved stays) in omega arith
@@ -144,7 +145,7 @@ abbrev emittedFrom : (labels : ℕ) → ℕ
 emittedFrom labels = firstEmitted (outcomes tickOf eightFirst 0 (encodeState (State.waits labels)) (callOn 0 ∷ []))
 
 pub no-ticks-changesEmission : ¬ TicksFromPosition changesEmission
-unfolding callsTo outcomes savedIn saveNamed find Names.without boxAfter callOf emptyBox present partOf vacated filled wouldPass totalIn addedBelow deliveredBy ofBits whole inUnsigned toUnsigned bayTickOf following bayReleaseOf bayAdmitOf baySaveOf bayForgetOf bayRestoreOf saveOf forgetOf lookup place put zeros leBytes leNumber tickBy checked read front commandOf distinct wellFormed before everyLabel labelsOf subset disjoint valid active activeLabels membersFrom declaredBy commands loopNesting signalNesting ceiling encodeState decodeState encodeAnswer expand reactBy errorsBy reactionsBy Sets.none only member join insert remove
+unfolding callsTo outcomes savedIn saveNamed find Names.without boxAfter callOf emptyBox present partOf vacated filled wouldPass totalIn addedBelow deliveredBy ofBits whole inUnsigned toUnsigned bayTickOf following bayReleaseOf bayAdmitOf baySaveOf bayForgetOf bayRestoreOf saveOf forgetOf lookup lastSuch put zeros leBytes leNumber tickBy checked read front commandOf distinct wellFormed before everyLabel labelsOf subset disjoint valid active activeLabels membersFrom declaredBy commands loopNesting signalNesting ceiling encodeState decodeState encodeAnswer expand reactBy errorsBy reactionsBy Sets.none only member join insert remove
 no-ticks-changesEmission h =
     let small : (0 < 4294967296) × (0 < 4294967296) = (omega arith, omega arith) in
     let one : 1 < 4294967296 = omega arith in

@@ -9,7 +9,8 @@ use Rattle.spec_base.specs.Bytes.{leNumber}
 use Rattle.spec_tick.specs.StateRecord.{labelsAt, labelsIn}
 use Rattle.spec_base.specs.Parts.{slot, put}
 use Rattle.spec_bay.specs.Names.{isKnown}
-use Rattle.spec_bay.specs.Table.{tableLength, lookup, names}
+use Rattle.spec_bay.specs.Table.{tableLength, lookup}
+use Rattle.box_positions.specs.Places.{names}
 use Rattle.spec_bay.specs.Called.{called, memoryAfter}
 use Rattle.spec_bay.specs.Stretch.{sequenceAt, stateAt, positionsAt, stretchLength, sequenceIn, stateIn, positionsIn, vacated}
 use Rattle.spec_box.specs.Box.{stretchOf, inBox, callOf}

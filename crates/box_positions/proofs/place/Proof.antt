@@ -3,7 +3,7 @@ use native.Mathlib.Omega.{arith}
 use mathlib.Core.Path.{_≡_, refl}
 use borrow.Author.Needs.{needs}
 use Rattle.spec_base.specs.Limits.{maxPositions}
-use Rattle.spec_bay.specs.Table.{place}
+use Rattle.box_positions.specs.Places.{place}
 use Rattle.box_positions.proofs.Placing.{hit, missed, nowhere}
 use Rattle.box_positions.proofs.place.Statement.{statement}
 use Rattle.box_positions.proofs.place.Tie as tie
