@@ -20,7 +20,7 @@ pub const LENGTH: usize = 128;
 pub const READING_LENGTH: usize = 132;
 
 // Four bytes, lowest first. Written out, so that it is one store.
-pub fn put_four(b: &mut [u8], at: usize, x: u32)
+fn put_four(b: &mut [u8], at: usize, x: u32)
     requires { ⌜ at + 4 ≤ length (now b) ⌝ }
     ensures { λ _. ⌜ now (b .exit) ≡ sets (now (b .entry)) at (leBytes 4 x) ⌝ }
 {
@@ -31,7 +31,7 @@ pub fn put_four(b: &mut [u8], at: usize, x: u32)
 }
 
 // A farm's total.
-pub fn total(ledger: &[u8], farm: usize) -> f32
+fn total(ledger: &[u8], farm: usize) -> f32
     requires { ⌜ (length (now ledger) ≡ ledgerLength) × (farm < farmCount) ⌝ }
     ensures { λ r. ⌜ r ≡ totalFloat farm (now (ledger .entry)) ⌝ }
 {

@@ -31,7 +31,7 @@ pub const MAX_UNKNOWN: u8 = 6;
 const OPEN: u8 = 254;
 
 // The findings of one filling, from what its instant reports.
-pub fn alone(emitted: u32, code: u8) -> Findings
+fn alone(emitted: u32, code: u8) -> Findings
     ensures { λ r. ⌜ r ≡ alone emitted code ⌝ }
 {
     Findings {
@@ -54,7 +54,7 @@ fn shared(k: u8, l: u8) -> u8
     if k == l { k } else { OPEN }
 }
 
-pub fn both(x: Findings, y: Findings) -> Findings
+fn both(x: Findings, y: Findings) -> Findings
     ensures { λ r. ⌜ r ≡ both x y ⌝ }
 {
     Findings {
@@ -71,7 +71,7 @@ fn bit(b: bool) -> u8
     if b { 1 } else { 0 }
 }
 
-pub fn write(buffer: &mut [u8], x: Findings)
+fn write(buffer: &mut [u8], x: Findings)
     requires { ⌜ length (now buffer) ≡ previewLength ⌝ }
     ensures { λ _. ⌜ now (buffer .exit) ≡ previewBytes x ⌝ }
 {
@@ -129,7 +129,7 @@ fn fill(
 }
 
 // The findings of all fillings together.
-pub fn gather(
+fn gather(
     sequence: &[u8],
     second: &SecondParts,
     origin: Start,

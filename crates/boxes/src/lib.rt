@@ -18,7 +18,7 @@ pub const BAY_COUNT: usize = 8;
 pub const BOX_LENGTH: usize = BAY_COUNT * STRETCH_LENGTH;
 
 // The number that turns a call down before any bay is looked at, or 0.
-pub fn reach(memory: &[u8], bay: u32) -> u8
+fn reach(memory: &[u8], bay: u32) -> u8
     ensures { λ r. ⌜ r ≡ entryOf (now (memory .entry)) bay either ⌝ }
 {
     let at = bay as usize;
@@ -32,7 +32,7 @@ pub fn reach(memory: &[u8], bay: u32) -> u8
 }
 
 // The number that turns a call down before its bay is touched, or 0: `vacant` says whether the call wants an empty bay.
-pub fn entry(memory: &[u8], bay: u32, vacant: bool) -> u8
+fn entry(memory: &[u8], bay: u32, vacant: bool) -> u8
     ensures { λ r. ⌜ r ≡ entryOf (now (memory .entry)) bay (fits vacant) ⌝ }
 {
     let number = reach(memory, bay);

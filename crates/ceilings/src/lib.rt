@@ -107,7 +107,7 @@ fn of_statement(s: &[u8], depth: u8) -> Tally
 }
 
 // The extent of the sequence s, in which so many signals stand around a command.
-pub fn of_sequence(s: &[u8], signals: u32) -> Extent
+fn of_sequence(s: &[u8], signals: u32) -> Extent
     requires { ⌜ Countable maxDepth (now s) ⌝ }
     ensures { λ r. ⌜ HasWith (now (s .entry)) signals r ⌝ }
 {
@@ -120,7 +120,7 @@ pub fn of_sequence(s: &[u8], signals: u32) -> Extent
 }
 
 // Each declaration is a command and a signal around one.
-pub fn under(n: Extent, read_back: u32) -> u32
+fn under(n: Extent, read_back: u32) -> u32
     requires { ⌜ Plannable n (length (membersFrom signalCount 0 «read_back»)) ⌝ }
     ensures { λ r. ⌜ r ≡ product n (length (membersFrom signalCount 0 «read_back»)) ⌝ }
 {
@@ -129,7 +129,7 @@ pub fn under(n: Extent, read_back: u32) -> u32
 }
 
 // The ceiling of a sequence that the check has passed, with the notes that it left.
-pub fn of_accepted(sequence: &[u8], read_back: u32, notes: &Notes) -> u32
+fn of_accepted(sequence: &[u8], read_back: u32, notes: &Notes) -> u32
     requires { ⌜ ((second : List ℕ) × Passed (now sequence) «read_back» second (now notes)) ⌝ }
     ensures { λ r. ⌜ r ≡ ceilingOf «read_back» (checked (now (sequence .entry)) «read_back») ⌝ }
 {

@@ -16,7 +16,7 @@ use notes::Notes;
 use reading::reader::Reading;
 
 // The first of rows 8, 9 and 10 that holds, or 0. Without setpauses neither row 9 nor row 10 can.
-pub fn label_row(s: &[u8], notes: &Notes) -> u8
+fn label_row(s: &[u8], notes: &Notes) -> u8
     requires { ⌜ Standing maxDepth 0 (now s) ⌝ }
     ensures { λ r. ⌜ ByLabels (now (s .entry)) (now (notes .entry)) r ⌝ }
 {
@@ -39,7 +39,7 @@ pub fn label_row(s: &[u8], notes: &Notes) -> u8
 }
 
 // Whether a sequence of n bytes is within row 2: not empty, and no longer than is allowed.
-pub fn is_sized(n: usize) -> bool
+fn is_sized(n: usize) -> bool
     ensures { λ r. ⌜ r ≡ (leb 1 n && leb n maxBytes) ⌝ }
 {
     if n == 0 {
@@ -49,7 +49,7 @@ pub fn is_sized(n: usize) -> bool
 }
 
 // Row 6 or 7, or 0, of a sequence of `bytes` bytes whose statement has n; `left` more signals may stand around it.
-pub fn after_reading(n: usize, left: u8, bytes: usize, read_back: u32) -> u8
+fn after_reading(n: usize, left: u8, bytes: usize, read_back: u32) -> u8
     ensures { λ r. ⌜ r ≡ cond (ltb left (length (membersFrom signalCount 0 «read_back»))) 6 (cond (ltb n bytes) 7 0) ⌝ }
 {
     if left < signals::size(read_back) {

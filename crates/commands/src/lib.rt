@@ -67,7 +67,7 @@ pub fn part_count(b: u8) -> Count
 }
 
 // Whether x, the first operand byte of the command b, is in its range; of a command without an operand, in that of signals.
-pub fn in_range(b: u8, x: u8) -> bool
+fn in_range(b: u8, x: u8) -> bool
     ensures { λ r. ⌜ r ≡ operandInRange (commandOf b) x ⌝ }
 {
     if b == 3 {

@@ -23,7 +23,7 @@ pub enum Choice {
 }
 
 // The first that fits the runs without the signal s and with it, inheritance before the other four (02, item 4).
-pub fn choose(s: u8, minus: Reaction, plus: Reaction) -> Choice
+fn choose(s: u8, minus: Reaction, plus: Reaction) -> Choice
     ensures { λ r. ⌜ r ≡ choiceOf (caseIn s minus plus) ⌝ }
 {
     let k = minus.completion;
@@ -51,21 +51,21 @@ pub fn choose(s: u8, minus: Reaction, plus: Reaction) -> Choice
 }
 
 // The number of reactions of a declaration: both runs count.
-pub fn counted(minus: Reaction, plus: Reaction) -> u32
+fn counted(minus: Reaction, plus: Reaction) -> u32
     ensures { λ r. ⌜ r ≡ keptOf (1 + minus .reactions + plus .reactions) ⌝ }
 {
     reaction::over_two(minus.reactions, plus.reactions)
 }
 
 // The signals that a declaration asks for: those of both runs, without its own signal s.
-pub fn asked(s: u8, minus: Reaction, plus: Reaction) -> u32
+fn asked(s: u8, minus: Reaction, plus: Reaction) -> u32
     ensures { λ r. ⌜ r ≡ remove s (join (minus .asked) (plus .asked)) ⌝ }
 {
     signals::without(signals::union(minus.asked, plus.asked), s)
 }
 
 // A wrong run is inherited: of two, that without the signal. What it emitted is not kept.
-pub fn inherited(minus: Reaction, plus: Reaction, reactions: u32, asked: u32) -> Reaction
+fn inherited(minus: Reaction, plus: Reaction, reactions: u32, asked: u32) -> Reaction
     ensures { λ r. ⌜ r ≡ record {
       emitted = none;
       labels = labelsWith none;
@@ -87,7 +87,7 @@ pub fn inherited(minus: Reaction, plus: Reaction, reactions: u32, asked: u32) ->
 
 // A declaration whose run p without the signal s did not ask for s: p stands for both runs, and counts twice. It emits the set
 // `kept`.
-pub fn declaring_once(kept: u32, p: Reaction) -> Reaction
+fn declaring_once(kept: u32, p: Reaction) -> Reaction
     ensures { λ r. ⌜ ((f : ℕ) (sc : Scope) (a s : ℕ) → kept ≡ outside sc s (p .emitted)
         → FromOne (signalOnce f sc a s) p r) ⌝ }
 {

@@ -134,7 +134,7 @@ pub fn reply_to(
 }
 
 // Whether the state and the answer record have their lengths (row 1).
-pub fn fit(state: usize, answer: usize) -> bool
+fn fit(state: usize, answer: usize) -> bool
     ensures { λ r. ⌜ r ≡ (eqb state stateLength && eqb answer answerLength) ⌝ }
 {
     if state != STATE_LENGTH {

@@ -34,7 +34,7 @@ fn put_byte(line: &mut [u8], end: usize, b: u8) -> usize
 }
 
 // Puts the numeral of x with at least `width` digits before `end`, and answers where it begins.
-pub fn put_numeral(line: &mut [u8], end: usize, base: u64, width: usize, x: u64) -> usize
+fn put_numeral(line: &mut [u8], end: usize, base: u64, width: usize, x: u64) -> usize
     requires { ⌜ (1 < base) × (base ≤ 16) × (length (numeral base width x) ≤ end) × (end ≤ length (now line)) ⌝ }
     ensures { λ r. ⌜ Prepended (now (line .entry)) end (numeral base width x) (now (line .exit)) r ⌝ }
 {
@@ -51,7 +51,7 @@ pub fn put_numeral(line: &mut [u8], end: usize, base: u64, width: usize, x: u64)
 }
 
 // Puts the bytes of a text before `end`, and answers where they begin.
-pub fn put_text(line: &mut [u8], end: usize, text: &[u8]) -> usize
+fn put_text(line: &mut [u8], end: usize, text: &[u8]) -> usize
     requires { ⌜ (length (now text) ≤ end) × (end ≤ length (now line)) ⌝ }
     ensures { λ r. ⌜ Prepended (now (line .entry)) end (now (text .entry)) (now (line .exit)) r ⌝ }
 {
@@ -66,7 +66,7 @@ pub fn put_text(line: &mut [u8], end: usize, text: &[u8]) -> usize
 }
 
 // Puts a numeral and the byte after it before `end`: at most 21 bytes.
-pub fn put_field(line: &mut [u8], end: usize, base: u64, width: usize, x: u64, after: u8) -> usize
+fn put_field(line: &mut [u8], end: usize, base: u64, width: usize, x: u64, after: u8) -> usize
     requires { ⌜ (10 ≤ base) × (base ≤ 16) × (width ≤ 16) × (21 ≤ end) × (end ≤ length (now line)) ⌝ }
     ensures { λ r. ⌜ Prepended (now (line .entry)) end (numeral base width x ++ after ∷ []) (now (line .exit)) r ⌝ }
     ensures { λ r. ⌜ end ≤ r + 21 ⌝ }
@@ -150,14 +150,7 @@ fn fixed(words: &[u8]) -> Line
 }
 
 // The fields of a row that are numerals to the base 10, before `end`.
-pub fn put_numbers(
-    line: &mut [u8],
-    end: usize,
-    instant: u64,
-    code: u64,
-    kind: u64,
-    place: u64,
-) -> usize
+fn put_numbers(line: &mut [u8], end: usize, instant: u64, code: u64, kind: u64, place: u64) -> usize
     requires { ⌜ (84 ≤ end) × (end ≤ length (now line)) ⌝ }
     ensures { λ r. ⌜ Prepended (now (line .entry)) end (numbersOf instant code kind place) (now (line .exit)) r ⌝ }
 {
@@ -168,7 +161,7 @@ pub fn put_numbers(
 }
 
 // The fields of a row that are sets, at the end of the line. The labels are two words, the second of those from 64 on.
-pub fn put_sets(line: &mut [u8], emitted: u64, low: u64, high: u64) -> usize
+fn put_sets(line: &mut [u8], emitted: u64, low: u64, high: u64) -> usize
     requires { ⌜ length (now line) ≡ lineLength ⌝ }
     ensures { λ r. ⌜ Prepended (now (line .entry)) lineLength (setsOf emitted (twoWords wordLabels low high)) (now (line .exit)) r ⌝ }
     ensures { λ r. ⌜ 84 ≤ r ⌝ }

@@ -56,7 +56,7 @@ pub fn is_finished(run: Run) -> bool
 }
 
 // The stage after an instant: a machine that is over ends the run, or else i inputs precede the next instant.
-pub fn following(phase: u8, i: usize) -> Stage
+fn following(phase: u8, i: usize) -> Stage
     ensures { λ r. ⌜ r ≡ stageAfter phase i ⌝ }
 {
     if phase == records::OVER {
@@ -72,7 +72,7 @@ pub enum Opened {
     Runs,
 }
 
-pub fn open(file: &[u8]) -> Opened
+fn open(file: &[u8]) -> Opened
     ensures { λ r. ⌜ fileBy (now (file .entry)) r ≡ fileOf (now (file .entry)) ⌝ }
 {
     if !files::is_whole(file) {
@@ -93,7 +93,7 @@ pub struct Piece {
 }
 
 // The instant on the input e: a tick, and its line.
-pub fn instant(file: &[u8], i: usize, e: u32, state: [u8; STATE_LENGTH]) -> Piece
+fn instant(file: &[u8], i: usize, e: u32, state: [u8; STATE_LENGTH]) -> Piece
     requires { ⌜ first (drop i (inputsIn (now file))) ≡ some e ⌝ }
     ensures { λ r. ⌜ Prints (now (file .entry)) (turnAt (now (file .entry)) state i) r ⌝ }
 {

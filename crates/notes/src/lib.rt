@@ -33,7 +33,7 @@ pub const FARMS: usize = 7;
 pub const RANKS: usize = 8;
 
 // A pause with label l was read.
-pub fn note_pause(l: u8, notes: &mut Notes)
+fn note_pause(l: u8, notes: &mut Notes)
     requires { ⌜ (l < labelCount) × (pausesCounted (now notes) < maxBytes) ⌝ }
     ensures { λ _. ⌜ now (notes .exit) ≡ notePause l (now (notes .entry)) ⌝ }
 {
@@ -48,7 +48,7 @@ pub fn note_pause(l: u8, notes: &mut Notes)
 }
 
 // A setpause with label l was read.
-pub fn note_setpause(l: u8, notes: &mut Notes)
+fn note_setpause(l: u8, notes: &mut Notes)
     requires { ⌜ l < labelCount ⌝ }
     ensures { λ _. ⌜ now (notes .exit) ≡ noteSetpause l (now (notes .entry)) ⌝ }
 {
@@ -57,7 +57,7 @@ pub fn note_setpause(l: u8, notes: &mut Notes)
 }
 
 // An emission of s with litres was read.
-pub fn note_farm(s: u8, notes: &mut Notes)
+fn note_farm(s: u8, notes: &mut Notes)
     requires { ⌜ s < signalCount ⌝ }
     ensures { λ _. ⌜ now (notes .exit) ≡ noteFarm s (now (notes .entry)) ⌝ }
 {

@@ -44,7 +44,7 @@ fn inside(
 
 // The sequence under a declaration of each read-back signal, which is a signal's: it reacts with the signal where the run without it
 // asked. The litres are those of the run that answers, the signal's own too (02, item 12).
-pub fn react(
+fn react(
     s: &[u8],
     origin: Start,
     input: u32,

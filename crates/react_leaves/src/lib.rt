@@ -24,7 +24,7 @@ pub enum Value {
 }
 
 // The value of the emission at the front of s.
-pub fn carried(s: &[u8]) -> Value
+fn carried(s: &[u8]) -> Value
     requires { ⌜ Emission (now s) ⌝ }
     ensures { λ r. ⌜ (r ≡ valueIn (now (s .entry))) × Whole r ⌝ }
 {
@@ -36,7 +36,7 @@ pub fn carried(s: &[u8]) -> Value
 }
 
 // The litres of a value.
-pub fn amount(v: Value) -> u32
+fn amount(v: Value) -> u32
     requires { ⌜ Whole v ⌝ }
     ensures { λ r. ⌜ r ≡ amountOf v ⌝ }
 {
@@ -59,7 +59,7 @@ fn deliver(s: &[u8], litres: &mut Deliveries, x: u8)
 }
 
 // An emission reacts, and what it delivers is added.
-pub fn emitting(s: &[u8], litres: &mut Deliveries) -> Reaction
+fn emitting(s: &[u8], litres: &mut Deliveries) -> Reaction
     requires { ⌜ Emission (now s) ⌝ }
     ensures { λ r. ⌜ ((f : ℕ) → Realizes f (now (litres .entry)) (now (litres .exit)) r
         (alone (gives (onlyBelow signalCount (getD (now (s .entry)) 1 0)) ended none nothing) none

@@ -116,7 +116,7 @@ pub fn over_one(n: u32) -> u32
 }
 
 // The sum of two numbers of litres. It is in range whatever they are.
-pub fn together(n: u32, m: u32) -> u32
+fn together(n: u32, m: u32) -> u32
     ensures { λ r. ⌜ r ≡ cappedOf (n + m) ⌝ }
 {
     let sum = n as u64 + m as u64;

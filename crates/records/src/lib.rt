@@ -39,7 +39,7 @@ pub fn phase(state: &[u8]) -> u8
 }
 
 // The label set at any offset of a buffer, of the bytes that are there.
-pub fn labels_at(buffer: &[u8], at: usize) -> Labels
+fn labels_at(buffer: &[u8], at: usize) -> Labels
     ensures { λ r. ⌜ labelSet r ≡ labelsFrom at (now (buffer .entry)) ⌝ }
 {
     let bytes = numbers::part(buffer, at, LABEL_BYTES);
@@ -55,7 +55,7 @@ pub fn labels(state: &[u8]) -> Labels
 }
 
 // Writes a label set at any offset of a buffer that has space for it.
-pub fn put_labels(buffer: &mut [u8], at: usize, labels: Labels)
+fn put_labels(buffer: &mut [u8], at: usize, labels: Labels)
     requires { ⌜ at + labelBytes ≤ length (now buffer) ⌝ }
     ensures { λ _. ⌜ now (buffer .exit) ≡ sets (now (buffer .entry)) at (leBytes labelBytes (labelSet labels)) ⌝ }
 {
@@ -157,7 +157,7 @@ pub fn following(number: u32) -> u32
     }
 }
 
-pub fn number(record: &[u8]) -> u32
+fn number(record: &[u8]) -> u32
     ensures { λ r. ⌜ r ≡ numberIn (now («record» .entry)) ⌝ }
 {
     numbers::get_le(record, 0, NUMBER_BYTES) as u32
@@ -169,7 +169,7 @@ pub fn input(record: &[u8]) -> u32
     numbers::get_le(record, INPUT_AT, SIGNAL_BYTES) as u32
 }
 
-pub fn answer(record: &[u8]) -> &[u8]
+fn answer(record: &[u8]) -> &[u8]
     ensures { λ r. ⌜ now r ≡ answerIn (now («record» .entry)) ⌝ }
 {
     numbers::part(record, ANSWER_AT, ANSWER_LENGTH)

@@ -59,7 +59,7 @@ pub enum Next {
 }
 
 // A record against the one that an instant leaves.
-pub fn compare(notes: &Notes, number: u32, input: u32, trace: &[u8], r: Reaction) -> Next
+fn compare(notes: &Notes, number: u32, input: u32, trace: &[u8], r: Reaction) -> Next
     requires { ⌜ Writable r × RankedAfter (now notes) (r .completion) (labelSet (r .labels)) ⌝ }
     ensures { λ x. ⌜ Compared (now (notes .entry)) number input (now (trace .entry)) r x ⌝ }
 {
@@ -76,7 +76,7 @@ pub fn compare(notes: &Notes, number: u32, input: u32, trace: &[u8], r: Reaction
 }
 
 // The record of an instant on the input recorded, from where the machine stands.
-pub fn follow(
+fn follow(
     sequence: &[u8],
     second: &SecondParts,
     notes: &Notes,

@@ -13,7 +13,7 @@ use layout::SecondParts;
 use notes::Notes;
 
 // Whether the active pauses are pairwise compatible. The statement at the front of s stands at the offset `at`.
-pub fn compatible(s: &[u8], at: usize, depth: u8, second: &SecondParts, active: Labels) -> bool
+fn compatible(s: &[u8], at: usize, depth: u8, second: &SecondParts, active: Labels) -> bool
     requires { ⌜ Ready (now second) depth at (now s) ⌝ }
     ensures { λ r. ⌜ TellsCompatible (now (second .entry)) depth at (now (s .entry)) (labelSet active) r ⌝ }
 {
