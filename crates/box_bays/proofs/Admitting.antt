@@ -11,14 +11,14 @@ use Rattle.spec_language.specs.Ceiling.{ceiling}
 use Rattle.spec_sequence.specs.Program.{program}
 use Rattle.spec_sequence.specs.Check.{Checked, sound, bad, checked, numberOf, checkOf}
 use Rattle.spec_sequence.specs.Rows.{row-2}
-use Rattle.spec_base.specs.Limits.{maxBytes}
+use Rattle.spec_base.specs.Limits.{maxBytes, sharedCeiling}
 use Rattle.theory_tick.proofs.Sequence.{accepted}
 use Rattle.ceilings.specs.declared.Plan.{Plan}
 use Rattle.ceilings.specs.declared.Plan.the-variants.{Refused, Takes}
 use Rattle.ceilings.specs.Plans.{planOf}
 use Rattle.spec_bay.specs.Called.{Called, called}
 use Rattle.spec_bay.specs.Stretch.{Terms, filled}
-use Rattle.spec_bay.specs.BayCalls.{sharedCeiling, byCheck, bayAdmitOf}
+use Rattle.spec_bay.specs.BayCalls.{byCheck, bayAdmitOf}
 
 -- the bytes of a sequence that passes the check
 pub bounds : (sequence : List ℕ) (readBack : ℕ) → numberOf (checked sequence readBack) ≡ 0 → length sequence ≤ maxBytes

@@ -8,9 +8,9 @@ use native.Mathlib.Decide.{decLt}
 use lib.ListN.{length, getD}
 use lib.Dec.{ltb}
 use borrow.Author.Tests.{lt-ltb, le-ltb}
-use Rattle.spec_base.specs.Limits.{litresLimit}
+use Rattle.spec_base.specs.Limits.{litresLimit, farmCount}
 use Rattle.reaction.specs.Reactions.{cappedOf}
-use Rattle.spec_bay.specs.Ledgers.{farmCount, ledgerLength, totalIn, wouldPass, passes, addedTo, addedBelow, added}
+use Rattle.spec_bay.specs.Ledgers.{ledgerLength, totalIn, wouldPass, passes, addedTo, addedBelow, added}
 use Rattle.box_ledgers.proofs.Totals.{passes-not}
 use Rattle.box_ledgers.proofs.Theorems as ledgers
 use Rattle.spec_tick.specs.Deliveries.{deliveries}

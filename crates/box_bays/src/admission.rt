@@ -7,10 +7,9 @@ ghost use Rattle.spec_bay.specs.Called.{called};
 ghost use Rattle.spec_bay.specs.Stretch.{stretchLength, terms};
 ghost use Rattle.spec_bay.specs.BayCalls.{bayAdmitOf};
 use ceilings::Plan;
+use limits::rows;
 
 // The reactions of an instant that the bays share.
-const SHARED_CEILING: u64 = 65536;
-
 // Admits a sequence to the bay, or gives the number that turns it down. `present` is what the bays present have of the shared ceiling.
 pub fn admit(
     stretch: &mut [u8],
@@ -26,8 +25,8 @@ pub fn admit(
     match ceilings::planned(sequence, read_back) {
         Plan::Refused(number) => number,
         Plan::Takes(ceiling) => {
-            if SHARED_CEILING < present + ceiling as u64 {
-                return 14;
+            if limits::SHARED_CEILING < present + ceiling as u64 {
+                return rows::CEILING;
             }
             crate::filling::fill(stretch, sequence, read_back, service_only, ceiling);
             0

@@ -6,6 +6,7 @@ pub mod fields;
 pub mod filling;
 pub mod naming;
 
+ghost use Rattle.spec_base.specs.Limits.{farmCount};
 ghost use mathlib.Core.Path.{_≡_};
 ghost use mathlib.Core.List.{[], _∷_};
 ghost use lib.ListN.{length, replicate, getD};
@@ -13,7 +14,7 @@ ghost use Rattle.spec_tick.specs.AnswerRecord.{answerLength};
 ghost use Rattle.spec_tick.specs.Record.{recordLength};
 ghost use Rattle.instants.specs.Written.{Writable, writtenFrom};
 ghost use Rattle.instants.specs.Replies.{Replies};
-ghost use Rattle.spec_bay.specs.Ledgers.{farmCount, NoneOutside};
+ghost use Rattle.spec_bay.specs.Ledgers.{NoneOutside};
 ghost use Rattle.instants.specs.Delivering.{Delivers};
 ghost use Rattle.spec_bay.specs.Called.{called};
 ghost use Rattle.spec_bay.specs.Stretch.{stretchLength, sequenceIn, readBackIn, stateIn};
@@ -25,6 +26,7 @@ use crate::fields::STATE_AT;
 use crate::fields::STRETCH_LENGTH;
 use instants::Reply;
 use limits::NUMBER_BYTES;
+use limits::rows;
 use reaction::Deliveries;
 use reaction::Reaction;
 use records::ANSWER_LENGTH;
@@ -63,7 +65,7 @@ fn settle(
         (stateKept (now (stretch .entry)) (writtenFrom reaction)) ⌝ }
 {
     if box_ledgers::would_pass(crate::fields::ledger(stretch), litres, farms) {
-        return 19;
+        return rows::LEDGER;
     }
     let number = instants::finish(&mut stretch[STATE_AT..COUNT_AT], answer, reaction);
     box_ledgers::add(&mut stretch[BAY_LENGTH..STRETCH_LENGTH], litres, farms);
@@ -77,7 +79,7 @@ fn step(stretch: &mut [u8], input: u32, answer: &mut [u8]) -> u8
         ≡ bayChargedOf (now (stretch .entry)) input (now (answer .entry)) ⌝ }
 {
     if answer.len() != ANSWER_LENGTH {
-        return 1;
+        return rows::LENGTH;
     }
     let mut named: u32 = 0;
     let mut litres: Deliveries = [0; limits::FARMS];
@@ -105,7 +107,7 @@ pub fn tick(stretch: &mut [u8], input: u32, answer: &mut [u8], trace: &mut [u8])
         ≡ bayTickOf (now (stretch .entry)) input (now (answer .entry)) (now (trace .entry)) ⌝ }
 {
     if trace.len() != RECORD_LENGTH {
-        return 1;
+        return rows::LENGTH;
     }
     let number = step(stretch, input, answer);
     if number == 0 {
@@ -120,10 +122,10 @@ pub fn service(stretch: &[u8], trace: &[u8], view: &mut [u8]) -> u8
         ≡ bayServiceOf (now (stretch .entry)) (now (trace .entry)) (now (view .entry)) ⌝ }
 {
     if trace.len() != RECORD_LENGTH {
-        return 1;
+        return rows::LENGTH;
     }
     if view.len() != RECORD_LENGTH {
-        return 1;
+        return rows::LENGTH;
     }
     records::write_service(view, trace);
     0
@@ -135,10 +137,10 @@ pub fn panel(stretch: &[u8], trace: &[u8], view: &mut [u8]) -> u8
         ≡ bayPanelOf (now (stretch .entry)) (now (trace .entry)) (now (view .entry)) ⌝ }
 {
     if trace.len() != RECORD_LENGTH {
-        return 1;
+        return rows::LENGTH;
     }
     if view.len() != PANEL_LENGTH {
-        return 1;
+        return rows::LENGTH;
     }
     records::write_panel(view, trace, crate::fields::service_only(stretch));
     0
@@ -166,7 +168,7 @@ pub fn read_ledger(stretch: &[u8], totals: &mut [u8]) -> u8
         ≡ bayLedgerOf (now (stretch .entry)) (now (totals .entry)) ⌝ }
 {
     if totals.len() != box_ledgers::READING_LENGTH {
-        return 1;
+        return rows::LENGTH;
     }
     box_ledgers::read(crate::fields::ledger(stretch), totals);
     0

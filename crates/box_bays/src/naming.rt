@@ -12,6 +12,7 @@ use crate::fields::COUNT_AT;
 use crate::fields::POSITIONS_AT;
 use crate::fields::STATE_AT;
 use limits::MAX_POSITIONS;
+use limits::rows;
 
 // The three calls with a name.
 pub enum Naming {
@@ -27,7 +28,7 @@ fn save(stretch: &mut [u8], known: usize, name: u32) -> u8
 {
     let held = crate::fields::state(stretch);
     if records::phase(held) != 1 {
-        return 15;
+        return rows::POSITION;
     }
     let labels = records::labels(held);
     box_positions::save(&mut stretch[POSITIONS_AT..BAY_LENGTH], known, name, labels)
@@ -40,7 +41,7 @@ fn restore(stretch: &mut [u8], known: usize) -> u8
         ≡ restored (now (stretch .entry)) (labelsFound known (positionsIn (now (stretch .entry)))) ⌝ }
 {
     if MAX_POSITIONS <= known {
-        return 15;
+        return rows::POSITION;
     }
     let saved = crate::fields::table(stretch);
     let labels = box_positions::saved_labels(saved, known);

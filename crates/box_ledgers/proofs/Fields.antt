@@ -13,7 +13,7 @@ use lib.IntN.{pos}
 use lib.Dec.{eqb}
 use lib.Ieee.{Float, binary32, ofBits, toBits, ofInt, inUnsigned}
 use borrow.Author.Tests.{eqb-true, eq-eqb, ne-eqb}
-use Rattle.spec_base.specs.Limits.{signalCount, litresLimit}
+use Rattle.spec_base.specs.Limits.{signalCount, litresLimit, farmCount}
 use Rattle.spec_base.specs.Sets.{member, none, remove}
 use Rattle.spec_base.specs.Widths.{Lowest}
 use Rattle.sets.proofs.Booleans.{clash}
@@ -25,7 +25,7 @@ use Rattle.spec_sequence.specs.Commands.{bytesAt}
 use Rattle.theory_sequence.proofs.Amounts.{amount-written}
 use Rattle.theory_sequence.proofs.Front.{bytes-taken}
 use Rattle.spec_base.specs.WholeLitres.{whole, litres}
-use Rattle.spec_bay.specs.Ledgers.{farmCount, ledgerLength, fieldIn, totalIn, Exact, NoneOutside, passes, addedTo, addedBelow, added}
+use Rattle.spec_bay.specs.Ledgers.{ledgerLength, fieldIn, totalIn, Exact, NoneOutside, passes, addedTo, addedBelow, added}
 use Rattle.box_ledgers.proofs.Totals.{total-whole, passes-not}
 
 -- ---- bytes elsewhere

@@ -8,12 +8,13 @@ use lib.ListN.{length}
 use lib.Seq.{sets}
 use lib.Dec.{T}
 use lib.Ieee.{Float, binary32, toBits, add, isNan}
+use Rattle.spec_base.specs.Limits.{farmCount}
 use Rattle.spec_base.specs.Bytes.{leBytes}
 use Rattle.numbers.proofs.Bytes.{length-leBytes}
 use Rattle.spec_sequence.specs.Amounts.{amountBytes}
 use Rattle.spec_base.specs.WholeLitres.{Near}
 use Rattle.litres.proofs.Sums.{Added, added-first, added-next, added-all, added-no-nan}
-use Rattle.spec_bay.specs.Ledgers.{farmCount, readingLength, totalIn, totalFloat, totalsBytes, exactTotal, shownTotal, readingOf, totalRead}
+use Rattle.spec_bay.specs.Ledgers.{readingLength, totalIn, totalFloat, totalsBytes, exactTotal, shownTotal, readingOf, totalRead}
 use Rattle.box_ledgers.proofs.Totals.{totals-whole, totals-none, written-next, written-all}
 use Rattle.box_ledgers.proofs.Theorems.{reading-within}
 

@@ -13,7 +13,7 @@ use lib.IntN.{pos}
 use lib.Ieee.{Float, binary32, ofBits, toBits, ofInt, inUnsigned, fits}
 use lib.Ieee.Bits.{ofBits-toBits, toBits-lt}
 use lib.Ieee.Fits.{add-fits}
-use Rattle.spec_base.specs.Limits.{litresLimit}
+use Rattle.spec_base.specs.Limits.{litresLimit, farmCount}
 use Rattle.spec_base.specs.Sets.{member}
 use Rattle.sets.proofs.Booleans.{Tested, tested}
 use Rattle.spec_base.specs.Bytes.{leBytes, leNumber}
@@ -22,7 +22,7 @@ use Rattle.spec_sequence.specs.Amounts.{amountSize, amountBytes, areBytes, floa
 use Rattle.theory_sequence.proofs.Amounts.{amount-written}
 use Rattle.spec_base.specs.WholeLitres.{whole, litres, ordered, Near}
 use Rattle.litres.proofs.Sums.{Running, last, Added, added-first, added-next}
-use Rattle.spec_bay.specs.Ledgers.{farmCount, ledgerLength, fieldIn, totalIn, totalFloat, Exact, totalsBytes, cleared, NoneOutside, wouldPass, passes, added, exactTotal, shownTotal, readingOf, totalRead}
+use Rattle.spec_bay.specs.Ledgers.{ledgerLength, fieldIn, totalIn, totalFloat, Exact, totalsBytes, cleared, NoneOutside, wouldPass, passes, added, exactTotal, shownTotal, readingOf, totalRead}
 use Rattle.box_ledgers.proofs.Totals as totals
 use Rattle.box_ledgers.proofs.Fields as fields
 

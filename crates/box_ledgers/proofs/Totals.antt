@@ -16,7 +16,7 @@ use lib.Ieee.Bits.{ofBits-fits}
 use lib.Ieee.Back.{float-back-unsigned}
 use borrow.Author.Tests.{ltb-false, lt-ltb, le-ltb}
 use Rattle.sets.proofs.Booleans.{or-l, or-r, or-first, or-second}
-use Rattle.spec_base.specs.Limits.{signalCount, litresLimit}
+use Rattle.spec_base.specs.Limits.{signalCount, litresLimit, farmCount}
 use Rattle.spec_base.specs.Sets.{none}
 use Rattle.spec_base.specs.Widths.{Lowest}
 use Rattle.sets.proofs.Members.{member-lt}
@@ -27,7 +27,7 @@ use Rattle.numbers.proofs.Writing.{sets-append, sets-whole}
 use Rattle.spec_sequence.specs.Amounts.{amountBytes}
 use Rattle.spec_base.specs.WholeLitres.{whole, litres, exact, Whole}
 use Rattle.litres.proofs.Sums.{value-of, sum-is, int-is, to-float, whole-no-nan}
-use Rattle.spec_bay.specs.Ledgers.{farmCount, readingLength, fieldIn, totalIn, totalFloat, totalsBytes, wouldPass, exactTotal}
+use Rattle.spec_bay.specs.Ledgers.{readingLength, fieldIn, totalIn, totalFloat, totalsBytes, wouldPass, exactTotal}
 
 pub holds : (b : Bool) → b ≡ true → T b
 holds true h = tt

@@ -7,8 +7,8 @@ ghost use lib.Dec.{ltb};
 ghost use lib.ListN.{length, getD};
 ghost use lib.Seq.{sets};
 ghost use Rattle.spec_base.specs.Bytes.{leBytes};
-ghost use Rattle.spec_base.specs.Limits.{litresLimit};
-ghost use Rattle.spec_bay.specs.Ledgers.{farmCount, ledgerLength, totalIn, totalFloat, cleared, NoneOutside, passes, addedTo, added, readingLength, exactTotal, readingOf, totalRead};
+ghost use Rattle.spec_base.specs.Limits.{litresLimit, farmCount};
+ghost use Rattle.spec_bay.specs.Ledgers.{ledgerLength, totalIn, totalFloat, cleared, NoneOutside, passes, addedTo, added, readingLength, exactTotal, readingOf, totalRead};
 ghost use Rattle.spec_base.specs.WholeLitres.{Near};
 ghost use Rattle.spec_sequence.specs.Amounts.{amountBytes};
 

@@ -12,6 +12,7 @@ ghost use Rattle.box_positions.specs.Places.{place, placeOf};
 use labels::Labels;
 use limits::MAX_POSITIONS;
 use limits::NAME_BYTES;
+use limits::rows;
 use records::STATE_LENGTH;
 
 const KEY_BYTES: usize = NAME_BYTES + 1;
@@ -81,7 +82,7 @@ pub fn save(table: &mut [u8], known: usize, name: u32, labels: Labels) -> u8
         write(table, i, name, labels);
         return 0;
     }
-    16
+    rows::POSITIONS
 }
 
 // The name of an entry is forgotten; 15 if it has none.
@@ -94,5 +95,5 @@ pub fn forget(table: &mut [u8], known: usize) -> u8
         numbers::put_le(table, known * ENTRY_LENGTH, ENTRY_LENGTH, 0);
         return 0;
     }
-    15
+    rows::POSITION
 }

@@ -6,7 +6,7 @@ use mathlib.Core.Logic.{_≢_}
 use mathlib.Core.List.{List}
 use lib.ListN.{length}
 use borrow.Author.Tests.{le-leb, lt-leb}
-use Rattle.spec_base.specs.Limits.{signalCount}
+use Rattle.spec_base.specs.Limits.{signalCount, maxUnknown}
 use Rattle.spec_base.specs.Sets.{difference, membersFrom}
 use Rattle.theory_language.specs.Traced.{startTraced, instantOf}
 use Rattle.spec_sequence.specs.Program.{program}
@@ -22,7 +22,7 @@ use Rattle.instants.specs.declared.Reply.the-variants.{Reacted}
 use Rattle.instants.specs.Replies.{StartsAt, Replies}
 use Rattle.instants.proofs.Replying.{written-from, started-reply}
 use Rattle.spec_bay.specs.declared.Findings.{Findings}
-use Rattle.spec_bay.specs.Preview.{findings, maxUnknown, previewLength, previewBytes, shownBy, Previewed, previewed, answerIn, answersOf, previewOf}
+use Rattle.spec_bay.specs.Preview.{findings, previewLength, previewBytes, shownBy, Previewed, previewed, answerIn, answersOf, previewOf}
 use Rattle.box_previews.specs.Standing.{answersAt, Stands}
 use Rattle.theory_bay.proofs.Numbers as numbers
 use Rattle.theory_bay.proofs.Numbers.{written-answer, refused-preview}

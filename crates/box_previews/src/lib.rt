@@ -12,20 +12,19 @@ ghost use Rattle.box_previews.specs.Standing.{answersAt, Stands, OfEach}
 use instants::Standing;
 use layout::SecondParts;
 use limits::SIGNAL_BYTES;
+use limits::rows;
 use notes::Notes;
 use program::Start;
 use reaction::Completion;
 use reaction::Reaction;
 use spec_bay::Findings;
 
-// Where the fields of a preview begin (02, item 11), its length, and the most inputs that may be unknown.
+// Where the fields of a preview begin (02, item 11), and its length.
 pub const NEVER_AT: usize = SIGNAL_BYTES;
 
 pub const WRONG_AT: usize = NEVER_AT + SIGNAL_BYTES;
 
 pub const PREVIEW_LENGTH: usize = WRONG_AT + 2;
-
-pub const MAX_UNKNOWN: u8 = 6;
 
 // The code of fillings that do not share one.
 const OPEN: u8 = 254;
@@ -160,8 +159,8 @@ fn show(
     ensures { λ r. ⌜ OfEach (now (second .entry)) (now (sequence .entry))
         (λ p. previewed r (now (buffer .exit)) ≡ shownBy (answersAt origin p «read_back») input unknown (now (buffer .entry))) ⌝ }
 {
-    if MAX_UNKNOWN < signals::size(unknown) {
-        return 17;
+    if limits::MAX_UNKNOWN < signals::size(unknown) {
+        return rows::UNKNOWN;
     }
     write(
         buffer,
@@ -183,7 +182,7 @@ pub fn preview(
         ≡ previewOf (now (sequence .entry)) (now (state .entry)) input unknown «read_back» (now (buffer .entry)) ⌝ }
 {
     if buffer.len() != PREVIEW_LENGTH {
-        return 1;
+        return rows::LENGTH;
     }
     let mut second: SecondParts = [0; limits::MAX_BYTES];
     let mut notes: Notes = [0; notes::LENGTH];

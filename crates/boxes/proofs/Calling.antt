@@ -9,12 +9,13 @@ use lib.ListN.{length, take, drop, length-drop}
 use lib.Dec.{eqb, ltb}
 use lib.Seq.{length-take-le}
 use borrow.Author.Tests.{lt-ltb, eq-eqb}
+use Rattle.spec_base.specs.Limits.{bayCount}
 use Rattle.spec_base.specs.Parts.{slot, put}
 use Rattle.numbers.proofs.Putting.{put-slot}
 use Rattle.spec_bay.specs.Called.{called}
 use Rattle.spec_bay.specs.Stretch.{stretchLength, Terms}
 use Rattle.spec_bay.specs.BayCalls.{bayAdmitOf}
-use Rattle.spec_box.specs.Box.{bayCount, boxLength, stretchOf, present, Call, admit, buffers, bayCall, isFor, inBox, callOf}
+use Rattle.spec_box.specs.Box.{boxLength, stretchOf, present, Call, admit, buffers, bayCall, isFor, inBox, callOf}
 use Rattle.box_bays.specs.declared.naming.Naming.the-variants.{Save, Restore, Forget}
 use Rattle.box_bays.specs.Moves.{bayMovedOf}
 use Rattle.box_bays.specs.declared.bufferless.Moving.{Moving}

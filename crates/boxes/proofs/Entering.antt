@@ -8,8 +8,9 @@ use mathlib.Core.List.{List}
 use lib.ListN.{length}
 use lib.Dec.{eqb, ltb}
 use borrow.Author.Tests.{lt-ltb, le-ltb, eq-eqb, ne-eqb, ltb-true, eqb-true}
+use Rattle.spec_base.specs.Limits.{bayCount}
 use Rattle.spec_bay.specs.Stretch.{isEmpty}
-use Rattle.spec_box.specs.Box.{bayCount, boxLength, stretchOf}
+use Rattle.spec_box.specs.Box.{boxLength, stretchOf}
 use Rattle.boxes.specs.Entries.{fits, either, entryOf}
 
 -- ---- the number that turns a call down, by the tests of the code

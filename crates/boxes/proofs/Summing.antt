@@ -4,8 +4,9 @@ use native.Mathlib.Omega.{arith}
 use native.Mathlib.Numerals.{add-one}
 use mathlib.Core.Path.{_≡_, refl, sym, ap, _∙_}
 use mathlib.Core.List.{List}
+use Rattle.spec_base.specs.Limits.{bayCount}
 use Rattle.spec_bay.specs.Stretch.{partOf}
-use Rattle.spec_box.specs.Box.{bayCount, stretchOf, present}
+use Rattle.spec_box.specs.Box.{stretchOf, present}
 
 pub none-present : (box : List ℕ) → 0 ≡ present 0 box
 unfolding present

@@ -1,5 +1,6 @@
 // The calls on a box of eight bays (02, items 8 to 12): whether a call has a bay, by the numbers 13 and 1, and then the call on
 // that bay's slot of the box.
+ghost use Rattle.spec_base.specs.Limits.{bayCount};
 ghost use mathlib.Core.Path.{_≡_};
 ghost use Rattle.boxes.specs.Entries.{fits, either, entryOf};
 ghost use mathlib.Core.List.{[], _∷_};
@@ -7,26 +8,25 @@ ghost use Prim.Native.Nat.{_*_, _^_, _≤_};
 ghost use lib.ListN.{length};
 ghost use Rattle.spec_bay.specs.Called.{called};
 ghost use Rattle.spec_bay.specs.Stretch.{terms};
-ghost use Rattle.spec_box.specs.Box.{bayCount, boxLength, present, callOf, release, tick, admit, save, restore, forget, service, panel, preview, ledger, newYear};
+ghost use Rattle.spec_box.specs.Box.{boxLength, present, callOf, release, tick, admit, save, restore, forget, service, panel, preview, ledger, newYear};
 ghost use Rattle.boxes.specs.Moving.{callBy};
 use box_bays::bufferless::Moving;
 use box_bays::fields::STRETCH_LENGTH;
 use box_bays::naming::Naming;
+use limits::rows;
 
-pub const BAY_COUNT: usize = 8;
-
-pub const BOX_LENGTH: usize = BAY_COUNT * STRETCH_LENGTH;
+pub const BOX_LENGTH: usize = limits::BAYS * STRETCH_LENGTH;
 
 // The number that turns a call down before any bay is looked at, or 0.
 fn reach(memory: &[u8], bay: u32) -> u8
     ensures { λ r. ⌜ r ≡ entryOf (now (memory .entry)) bay either ⌝ }
 {
     let at = bay as usize;
-    if BAY_COUNT <= at {
-        return 13;
+    if limits::BAYS <= at {
+        return rows::BAY;
     }
     if memory.len() != BOX_LENGTH {
-        return 1;
+        return rows::LENGTH;
     }
     0
 }
@@ -45,10 +45,10 @@ fn entry(memory: &[u8], bay: u32, vacant: bool) -> u8
         if empty {
             return 0;
         }
-        return 13;
+        return rows::BAY;
     }
     if empty {
-        return 13;
+        return rows::BAY;
     }
     0
 }
@@ -92,7 +92,7 @@ fn present_in(memory: &[u8]) -> u64
 {
     let mut sum: u64 = 0;
     let mut i = 0;
-    while i < BAY_COUNT {
+    while i < limits::BAYS {
         let from = i * STRETCH_LENGTH;
         sum += box_bays::fields::part(numbers::part(memory, from, STRETCH_LENGTH)) as u64;
         i += 1;

@@ -1,6 +1,6 @@
 // The check of a sequence with a read-back set (01, rows 2 to 10; 02, row 18): reading first, then the other rows in their order.
 // It leaves the table of second parts and the notes of an accepted sequence.
-ghost use Rattle.spec_base.specs.Limits.{maxDepth, maxBytes, signalCount};
+ghost use Rattle.spec_base.specs.Limits.{maxDepth, maxBytes, signalCount, depthRow, behindRow};
 ghost use Rattle.wellformed.specs.Survey.{Standing};
 ghost use Rattle.checks.specs.Labelling.{ByLabels};
 ghost use mathlib.Core.Path.{_≡_};
@@ -12,6 +12,7 @@ ghost use Rattle.layout.specs.Notes.{noNotes};
 ghost use Rattle.checks.specs.Verdict.{Judged};
 ghost use Rattle.spec_sequence.specs.Check.{checkOf};
 use layout::SecondParts;
+use limits::rows;
 use notes::Notes;
 use reading::reader::Reading;
 
@@ -21,7 +22,7 @@ fn label_row(s: &[u8], notes: &Notes) -> u8
     ensures { λ r. ⌜ ByLabels (now (s .entry)) (now (notes .entry)) r ⌝ }
 {
     if !notes::is_distinct(notes) {
-        return 8;
+        return rows::TWICE;
     }
     let setpauses = notes::setpauses(notes);
     if labels::is_empty(setpauses) {
@@ -29,12 +30,12 @@ fn label_row(s: &[u8], notes: &Notes) -> u8
     }
     let pauses = notes::pauses(notes);
     if !labels::subset(setpauses, pauses) {
-        return 9;
+        return rows::UNPAUSED;
     }
     if wellformed::triggers::is_well_formed(s, pauses) {
         0
     } else {
-        10
+        rows::FORM
     }
 }
 
@@ -50,13 +51,13 @@ fn is_sized(n: usize) -> bool
 
 // Row 6 or 7, or 0, of a sequence of `bytes` bytes whose statement has n; `left` more signals may stand around it.
 fn after_reading(n: usize, left: u8, bytes: usize, read_back: u32) -> u8
-    ensures { λ r. ⌜ r ≡ cond (ltb left (length (membersFrom signalCount 0 «read_back»))) 6 (cond (ltb n bytes) 7 0) ⌝ }
+    ensures { λ r. ⌜ r ≡ cond (ltb left (length (membersFrom signalCount 0 «read_back»))) depthRow (cond (ltb n bytes) behindRow 0) ⌝ }
 {
     if left < signals::size(read_back) {
-        return 6;
+        return rows::DEPTH;
     }
     if n < bytes {
-        return 7;
+        return rows::BEHIND;
     }
     0
 }
@@ -68,7 +69,7 @@ pub fn check(s: &[u8], read_back: u32, second: &mut SecondParts, notes: &mut Not
     ensures { λ r. ⌜ Judged (now (s .entry)) «read_back» (now (second .exit)) (now (notes .exit)) r ⌝ }
 {
     if !is_sized(s.len()) {
-        return 2;
+        return rows::BYTES;
     }
     match reading::reader::read_sequence(s, second, notes) {
         Reading::Refused(row) => row,

@@ -126,15 +126,15 @@ fn delivery(s: &[u8]) -> usize
     ensures { λ r. ⌜ r ≡ headOf (front (now (s .entry))) ⌝ }
 {
     if s.len() <= 5 {
-        return 4 * layout::ROW_UNIT;
+        return layout::MISSING_ROW;
     }
     if limits::SIGNALS <= s[1] {
-        return 5 * layout::ROW_UNIT;
+        return layout::OPERAND_ROW;
     }
     if litres::is_whole(litres::bits(s, 2)) {
         6
     } else {
-        18 * layout::ROW_UNIT
+        layout::LITRES_ROW
     }
 }
 
@@ -148,7 +148,7 @@ pub fn leaf(s: &[u8], b: u8) -> usize
         return 1;
     }
     if s.len() <= 1 {
-        return 4 * layout::ROW_UNIT;
+        return layout::MISSING_ROW;
     }
     if b == limits::DELIVER {
         return delivery(&s[0..]);
@@ -156,7 +156,7 @@ pub fn leaf(s: &[u8], b: u8) -> usize
     if in_range(b, s[1]) {
         2
     } else {
-        5 * layout::ROW_UNIT
+        layout::OPERAND_ROW
     }
 }
 
@@ -167,16 +167,16 @@ pub fn width(s: &[u8], b: u8) -> usize
     ensures { λ r. ⌜ r ≡ headOf (front (now (s .entry))) ⌝ }
 {
     match operand_count(b) {
-        Count::NoCommand => 3 * layout::ROW_UNIT,
+        Count::NoCommand => layout::COMMAND_ROW,
         Count::Of(n) => {
             if n == 0 {
                 return 1;
             }
             if s.len() < 2 {
-                return 4 * layout::ROW_UNIT;
+                return layout::MISSING_ROW;
             }
             if limits::SIGNALS <= s[1] {
-                return 5 * layout::ROW_UNIT;
+                return layout::OPERAND_ROW;
             }
             2
         }

@@ -11,6 +11,7 @@ ghost use Rattle.spec_language.specs.Statement.{Scope, local, reported};
 ghost use Rattle.spec_language.specs.Reaction.{outside};
 ghost use Rattle.theory_language.specs.Traced.{signalOnce, signalTraced};
 ghost use Rattle.spec_base.specs.Limits.{readBackPlace};
+use limits::kinds;
 use reaction::Reaction;
 
 // The five signal cases of 01.
@@ -116,8 +117,8 @@ fn declaring(place: u16, s: u8, kept: u32, minus: Reaction, plus: Reaction) -> R
     match choose(s, minus, plus) {
         Choice::Both => reaction::made(kept, plus_labels, l, reactions, asked),
         Choice::Neither => reaction::made(minus.emitted, minus_labels, k, reactions, asked),
-        Choice::OnlyMinus => reaction::failing(2, place, reactions, asked),
-        Choice::OnlyPlus => reaction::failing(3, place, reactions, asked),
+        Choice::OnlyMinus => reaction::failing(kinds::NOT_REACTIVE, place, reactions, asked),
+        Choice::OnlyPlus => reaction::failing(kinds::NOT_DETERMINISTIC, place, reactions, asked),
         Choice::Inherited => inherited(minus, plus, reactions, asked),
     }
 }

@@ -4,7 +4,7 @@ use native.Mathlib.Omega.{arith}
 use mathlib.Core.Path.{_≡_, refl, sym, ap, _∙_, subst}
 use mathlib.Core.List.{List}
 use lib.ListN.{getD, replicate}
-use Rattle.spec_base.specs.Limits.{signalCount}
+use Rattle.spec_base.specs.Limits.{signalCount, farmCount}
 use Rattle.spec_base.specs.Sets.{member}
 use Rattle.spec_language.specs.Statement.{Statement}
 use Rattle.spec_language.specs.Reaction.{inheritanceFirst}
@@ -40,7 +40,7 @@ module _ {p : Statement} {notes : List ℕ} (n : Noted p notes) where
 
 -- ---- what a call delivers
 module _ (sequence state : List ℕ) (e readBack farms : ℕ) (litres : List ℕ) where
-  pub refused-delivers : litres ≡ replicate signalCount 0 → (n : ℕ) → replyOf sequence state e readBack ≡ refused n
+  pub refused-delivers : litres ≡ replicate farmCount 0 → (n : ℕ) → replyOf sequence state e readBack ≡ refused n
       → Delivers sequence state e readBack farms litres
   refused-delivers z n h = (λ f small k. none-held z f, λ f small. none-held z f ∙ none-capped (go f (checked sequence readBack) h))
     where
@@ -68,6 +68,6 @@ module _ (sequence state : List ℕ) (e readBack farms : ℕ) (litres : List ℕ
         ∙ sym (by-record (holds (State.waits (labelsIn state))) (d .0) f)
 
     pub started-delivers : (origin : Start) → StartsAt p state origin → OnlyOf farms litres
-        → ((f : ℕ) → f < signalCount → getD litres f 0 ≡ cappedOf (adds f (program readBack (termAt origin p)) e))
+        → ((f : ℕ) → f < farmCount → getD litres f 0 ≡ cappedOf (adds f (program readBack (termAt origin p)) e))
         → Delivers sequence state e readBack farms litres
     started-delivers origin d n h = (n, λ f small. h f small ∙ ap cappedOf (term-delivers origin d f))

@@ -45,7 +45,7 @@ use Rattle.instants.specs.declared.Standing.the-variants as stands
 use Rattle.instants.specs.declared.Reply.{Reply}
 use Rattle.instants.specs.declared.Reply.the-variants.{Refused, Reacted}
 use Rattle.instants.specs.Written.{WritableCode, Writable, writtenFrom}
-use Rattle.instants.specs.Replies.{StartsAt, Decodes, Begins, StandsFor, repliedFrom, Replies}
+use Rattle.instants.specs.Replies.{StartsAt, Decodes, CallStands, StandsFor, repliedFrom, Replies}
 use Rattle.theory_tick.proofs.Bounds.{Bounded, Exits, ranged-bounded, bounded-expand, bounded-declared, code-exits}
 
 -- WRITTEN: the code's tree writes what the language's instant does; the signals asked for and the litres are not told
@@ -82,7 +82,7 @@ module _ (sequence state : List ℕ) (readBack : ℕ) where
       go (bad k) x = ap tick.refused (sym x)
       go (sound p) x = absurd (z x)
 
-  pub decoded : {t notes : List ℕ} (h : Passed sequence readBack t notes) (r : Standing) → Decodes (h .p) state r → Begins sequence state readBack t notes r
+  pub decoded : {t notes : List ℕ} (h : Passed sequence readBack t notes) (r : Standing) → Decodes (h .p) state r → CallStands sequence state readBack t notes r
   decoded h (stands.Refused n) d =
       λ e. ap (λ (c : Checked). byCheck inheritanceFirst readBack c state e) (h .is) ∙ d (program readBack (h .p)) e
   decoded h (stands.From origin) d = (h, d)

@@ -40,9 +40,9 @@ abbrev pub DecodesRead : (t notes sequence state : List ℕ) → Standing → Ty
 DecodesRead t notes sequence state r = (p : Statement) → Known t notes sequence p → Decodes p state r
 
 -- a call before it reacts: turned down whatever its input, or the sequence passed the check and starts from the record
-abbrev pub Begins : (sequence state : List ℕ) (readBack : ℕ) (t notes : List ℕ) → Standing → Type 0
-Begins sequence state readBack t notes (stands.Refused n) = (e : ℕ) → replyOf sequence state e readBack ≡ refused n
-Begins sequence state readBack t notes (stands.From start) = (h : Passed sequence readBack t notes) × StartsAt (h .p) state start
+abbrev pub CallStands : (sequence state : List ℕ) (readBack : ℕ) (t notes : List ℕ) → Standing → Type 0
+CallStands sequence state readBack t notes (stands.Refused n) = (e : ℕ) → replyOf sequence state e readBack ≡ refused n
+CallStands sequence state readBack t notes (stands.From start) = (h : Passed sequence readBack t notes) × StartsAt (h .p) state start
 
 -- ---- the reply by value: the code's instant is that of a tree, whose signals asked for are not told
 abbrev pub StandsFor : Reply → tick.Reply → Type 0

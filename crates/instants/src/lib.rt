@@ -2,19 +2,20 @@
 // core, which is a value, and both records, which are written last.
 ghost use mathlib.Core.Path.{_≡_};
 ghost use lib.ListN.{length, replicate};
-ghost use Rattle.spec_base.specs.Limits.{maxBytes, signalCount};
+ghost use Rattle.spec_base.specs.Limits.{maxBytes, farmCount};
 ghost use Rattle.spec_tick.specs.StateRecord.{stateLength};
 ghost use Rattle.spec_tick.specs.AnswerRecord.{answerLength};
 ghost use Rattle.spec_tick.specs.Tick.{outcome};
 ghost use Rattle.instants.specs.Written.{Writable, writtenFrom};
 ghost use Rattle.layout.specs.Known.{Sound};
 ghost use Rattle.layout.specs.Notes.{noNotes};
-ghost use Rattle.instants.specs.Replies.{DecodesRead, Begins, Replies};
+ghost use Rattle.instants.specs.Replies.{DecodesRead, CallStands, Replies};
 ghost use Rattle.instants.specs.Delivering.{Delivers};
 ghost use mathlib.Core.Bool.{_&&_};
 ghost use lib.Dec.{eqb};
 ghost use Rattle.spec_tick.specs.Demands.{TickMeets};
 use layout::SecondParts;
+use limits::rows;
 use notes::Notes;
 use program::Start;
 use reaction::Completion;
@@ -67,7 +68,7 @@ fn decode(sequence: &[u8], second: &SecondParts, notes: &Notes, state: &[u8]) ->
     if phase == records::WAITING {
         return match validity::validity_of(sequence, second, notes, labels) {
             Validity::Valid(active) => Standing::From(Start::Waiting(active)),
-            Validity::Invalid => Standing::Refused(11),
+            Validity::Invalid => Standing::Refused(rows::MALFORMED),
         };
     }
     if labels::is_empty(labels) {
@@ -75,10 +76,10 @@ fn decode(sequence: &[u8], second: &SecondParts, notes: &Notes, state: &[u8]) ->
             return Standing::From(Start::Fresh);
         }
         if phase == records::OVER {
-            return Standing::Refused(12);
+            return Standing::Refused(rows::OVER);
         }
     }
-    Standing::Refused(11)
+    Standing::Refused(rows::MALFORMED)
 }
 
 // The check, and then the state record. Of a call that is not turned down the table of second parts and the notes of labels are left.
@@ -91,7 +92,7 @@ pub fn begin(
 ) -> Standing
     requires { ⌜ length (now second) ≡ maxBytes ⌝ }
     requires { ⌜ now notes ≡ noNotes ⌝ }
-    ensures { λ r. ⌜ Begins (now (sequence .entry)) (now (state .entry)) «read_back» (now (second .exit)) (now (notes .exit)) r ⌝ }
+    ensures { λ r. ⌜ CallStands (now (sequence .entry)) (now (state .entry)) «read_back» (now (second .exit)) (now (notes .exit)) r ⌝ }
 {
     let number = checks::check(sequence, read_back, second, notes);
     if number != 0 {
@@ -116,7 +117,7 @@ pub fn reply_to(
     farms: &mut u32,
     litres: &mut Deliveries,
 ) -> Reply
-    requires { ⌜ now litres ≡ replicate signalCount 0 ⌝ }
+    requires { ⌜ now litres ≡ replicate farmCount 0 ⌝ }
     ensures { λ r. ⌜ Replies (now (sequence .entry)) (now (state .entry)) input «read_back» r ⌝ }
     ensures { λ _. ⌜ Delivers (now (sequence .entry)) (now (state .entry)) input «read_back»
         (now (farms .exit)) (now (litres .exit)) ⌝ }
@@ -156,5 +157,5 @@ pub fn tick(sequence: &[u8], state: &mut [u8], input: u32, read_back: u32, answe
             Reply::Reacted(reaction) => finish(state, answer, reaction),
         };
     }
-    1
+    rows::LENGTH
 }

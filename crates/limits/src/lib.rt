@@ -1,5 +1,8 @@
 // The widths and limits of 01 and 02, each named once for the code; spec_base/specs/Limits names them for the definitions. Labels
 // are 0 to 127 (02, item 7), signals 0 to 31, exits 1 to 15.
+pub mod kinds;
+pub mod rows;
+
 pub const LABELS: u8 = 128;
 
 pub const LABEL_COUNT: usize = 128;
@@ -82,3 +85,10 @@ pub const NAME_BYTES: usize = 4;
 pub const NUMBER_BYTES: usize = 4;
 
 pub const LAST_NUMBER: u32 = 4294967295;
+
+// A box has so many bays, and they share a ceiling (02, item 8); a preview takes at most so many unknown inputs (02, item 11).
+pub const BAYS: usize = 8;
+
+pub const SHARED_CEILING: u64 = 65536;
+
+pub const MAX_UNKNOWN: u8 = 6;

@@ -5,7 +5,7 @@ use mathlib.Core.Bool.{Bool, true, false, cond}
 use mathlib.Core.List.{List, [], _∷_}
 use native.Mathlib.Omega.{arith}
 use lib.ListN.{length, getD, replicate, length-replicate}
-use Rattle.spec_base.specs.Limits.{maxDepth, signalCount, readBackPlace}
+use Rattle.spec_base.specs.Limits.{maxDepth, farmCount, readBackPlace}
 use Rattle.spec_base.specs.Sets.{empty, below, from}
 use Rattle.spec_language.specs.Statement.{Statement, nothing, pause, emit, exit, seq, par, loop, present, signal, try, setpause, suspend, held}
 use Rattle.spec_language.specs.Reaction.{code, react, isWrong}
@@ -78,11 +78,11 @@ none-either : (x : Bool) → cappedOf (cond x 0 0) ≡ 0
 none-either true = refl
 none-either false = refl
 
-pub none-held : {litres : List ℕ} → litres ≡ replicate signalCount 0 → (f : ℕ) → getD litres f 0 ≡ 0
-none-held z f = ap (λ (x : List ℕ). getD x f 0) z ∙ zeros signalCount f
+pub none-held : {litres : List ℕ} → litres ≡ replicate farmCount 0 → (f : ℕ) → getD litres f 0 ≡ 0
+none-held z f = ap (λ (x : List ℕ). getD x f 0) z ∙ zeros farmCount f
 
 -- a tree's litres, in lists that were clear before it
-module _ (t bs : List ℕ) (origin : Start) (e readBack : ℕ) {litres after : List ℕ} (clear : litres ≡ replicate signalCount 0)
+module _ (t bs : List ℕ) (origin : Start) (e readBack : ℕ) {litres after : List ℕ} (clear : litres ≡ replicate farmCount 0)
     {r : Reaction} (h : Reacted t bs origin e readBack litres after r) {b : Bool} (tested : b ≡ isWrong (codeOf (r .completion))) where
   code-is : (p : Statement) → Lies t maxDepth 0 0 bs p → isWrong (code (react (termOf origin readBack p) e)) ≡ b
   code-is p l =
@@ -90,7 +90,7 @@ module _ (t bs : List ℕ) (origin : Start) (e readBack : ℕ) {litres after : L
       ∙ ap isWrong (code-of (code (react (termOf origin readBack p) e)) (firstError (termOf origin readBack p) e)))
 
   -- what each farm is told is none where the statement does not name it
-  whole : (told : List ℕ) → ((p : Statement) → Lies t maxDepth 0 0 bs p → (f : ℕ) → f < signalCount → getD told f 0 ≡ cappedOf (adds f (termOf origin readBack p) e))
+  whole : (told : List ℕ) → ((p : Statement) → Lies t maxDepth 0 0 bs p → (f : ℕ) → f < farmCount → getD told f 0 ≡ cappedOf (adds f (termOf origin readBack p) e))
       → Instant t bs origin e readBack r told
   whole told w p l = (
     h p l 0 .0,
@@ -101,17 +101,17 @@ module _ (t bs : List ℕ) (origin : Start) (e readBack : ℕ) {litres after : L
         ∙ none-either (isWrong (code (react (termOf origin readBack p) e))),
   )
 
-  pub wrong-instant : b ≡ true → {told : List ℕ} → told ≡ replicate signalCount 0 → Instant t bs origin e readBack r told
+  pub wrong-instant : b ≡ true → {told : List ℕ} → told ≡ replicate farmCount 0 → Instant t bs origin e readBack r told
   wrong-instant w {told} z =
       whole told (λ p l f small. none-held z f ∙ none-capped (ap (λ (x : Bool). cond x 0 (delivered f (termOf origin readBack p) e)) (code-is p l ∙ w)))
 
   pub right-instant : b ≡ false → Instant t bs origin e readBack r after
   right-instant w = whole after each
     where
-      each : (p : Statement) → Lies t maxDepth 0 0 bs p → (f : ℕ) → f < signalCount → getD after f 0 ≡ cappedOf (adds f (termOf origin readBack p) e)
+      each : (p : Statement) → Lies t maxDepth 0 0 bs p → (f : ℕ) → f < farmCount → getD after f 0 ≡ cappedOf (adds f (termOf origin readBack p) e)
       each p l f small =
           let zero-before = none-held clear f in
-          let k = ap length clear ∙ length-replicate {A = ℕ} signalCount 0 in
+          let k = ap length clear ∙ length-replicate {A = ℕ} farmCount 0 in
           let one = h p l f .1 .accumulates (omega (arith, k, small)) in
           let sum = one .summed (omega (arith, zero-before)) (code-is p l ∙ w) in
           let told : getD after f 0 ≡ cappedOf (delivered f (termOf origin readBack p) e) = omega (arith, sum, zero-before) in

@@ -4,7 +4,7 @@ use mathlib.Core.Path.{_≡_}
 use mathlib.Core.Bool.{false}
 use mathlib.Core.List.{List}
 use lib.ListN.{getD}
-use Rattle.spec_base.specs.Limits.{maxDepth, signalCount}
+use Rattle.spec_base.specs.Limits.{maxDepth, farmCount}
 use Rattle.spec_base.specs.Sets.{member}
 use Rattle.spec_language.specs.Statement.{Statement}
 use Rattle.spec_language.specs.Litres.{AtMost}
@@ -22,16 +22,16 @@ termOf origin readBack p = program readBack (termAt origin p)
 
 -- a set has the farms that p names
 abbrev pub HasNamed : (farms : ℕ) → Statement → Type 0
-HasNamed farms p = (f : ℕ) → f < signalCount → member f farms ≡ false → AtMost f 0 p
+HasNamed farms p = (f : ℕ) → f < farmCount → member f farms ≡ false → AtMost f 0 p
 
 -- only farms of a set have litres
 abbrev pub OnlyOf : (farms : ℕ) (litres : List ℕ) → Type 0
-OnlyOf farms litres = (f : ℕ) → f < signalCount → member f farms ≡ false → getD litres f 0 ≡ 0
+OnlyOf farms litres = (f : ℕ) → f < farmCount → member f farms ≡ false → getD litres f 0 ≡ 0
 
 -- the instant, and every farm's litres: none of those that a set with all named farms has not
 abbrev pub Instant : (t bs : List ℕ) (origin : Start) (e readBack : ℕ) (r : Reaction) (litres : List ℕ) → Type 0
 Instant t bs origin e readBack r litres =
     (p : Statement) → Lies t maxDepth 0 0 bs p
     → (r ≡ reactionTo (termOf origin readBack p) e)
-    × ((f : ℕ) → f < signalCount → getD litres f 0 ≡ cappedOf (adds f (termOf origin readBack p) e))
+    × ((f : ℕ) → f < farmCount → getD litres f 0 ≡ cappedOf (adds f (termOf origin readBack p) e))
     × ((farms : ℕ) → HasNamed farms p → OnlyOf farms litres)

@@ -2,7 +2,7 @@
 // resumes, inside.
 ghost use mathlib.Core.Path.{_≡_};
 ghost use lib.ListN.{replicate};
-ghost use Rattle.spec_base.specs.Limits.{maxDepth, signalCount};
+ghost use Rattle.spec_base.specs.Limits.{maxDepth, farmCount};
 ghost use Rattle.layout.specs.Layout.{Ready};
 ghost use Rattle.program.specs.Program.{Inside, Reacted, ReactedWithoutLitres};
 ghost use Rattle.program.specs.Deliveries.{Instant};
@@ -83,7 +83,7 @@ pub fn instant(
     second: &SecondParts,
 ) -> Reaction
     requires { ⌜ Ready (now second) maxDepth 0 (now s) ⌝ }
-    requires { ⌜ now litres ≡ replicate signalCount 0 ⌝ }
+    requires { ⌜ now litres ≡ replicate farmCount 0 ⌝ }
     ensures { λ r. ⌜ Instant (now (second .entry)) (now (s .entry)) origin input «read_back» r (now (litres .exit)) ⌝ }
 {
     let r = react(s, origin, input, read_back, litres, second);

@@ -20,7 +20,7 @@ pub fn leaf(s: &[u8], at: usize, b: u8, depth: u8, notes: &mut Notes) -> usize
         return w;
     }
     if depth == 0 {
-        return 6 * layout::ROW_UNIT;
+        return layout::DEPTH_ROW;
     }
     if w == 1 {
         return at + 1;

@@ -87,7 +87,7 @@ fn read(
         (read depth signals at (now (s .entry))) r ⌝ }
 {
     if s.len() == 0 {
-        return 4 * layout::ROW_UNIT;
+        return layout::MISSING_ROW;
     }
     let b = s[0];
     if commands::is_leaf(b) {
@@ -98,7 +98,7 @@ fn read(
         return w;
     }
     if is_deep(depth) {
-        return 6 * layout::ROW_UNIT;
+        return layout::DEPTH_ROW;
     }
     // asked before the first call of `two`: behind it they would keep `first` from being inlined, which costs a frame
     let choice = is_choice(b);
@@ -112,7 +112,7 @@ fn read(
     if declaring {
         let left = declare(signals, notes);
         if left == CROWDED {
-            return 6 * layout::ROW_UNIT;
+            return layout::DEPTH_ROW;
         }
         return read(&s[2..], at + 2, depth - 1, left, second, notes);
     }

@@ -3,6 +3,7 @@ use Prim.Native.Nat.{ℕ}
 use mathlib.Core.Path.{_≡_}
 use mathlib.Core.Bool.{true, false}
 use mathlib.Core.List.{List}
+use Rattle.spec_base.specs.Limits.{overRow}
 use Rattle.labels.specs.Labels.{labelSet}
 use Rattle.labels.specs.declared.Labels.{Labels}
 use Rattle.reaction.specs.declared.Completion.{Completion}
@@ -27,10 +28,10 @@ RankedAfter notes (Leaving n) L = Unit {0}
 RankedAfter notes (Wrong kind place) L = Unit {0}
 
 abbrev pub StandsAfter : (notes : List ℕ) → Completion → (L : ℕ) → Standing → Type 0
-StandsAfter notes Ended L s = s ≡ stands.Refused 12
+StandsAfter notes Ended L s = s ≡ stands.Refused overRow
 StandsAfter notes Waiting L s = (m : Labels) × (s ≡ stands.From (starts.Waiting m)) × Masked notes L (labelSet m)
-StandsAfter notes (Leaving n) L s = s ≡ stands.Refused 12
-StandsAfter notes (Wrong kind place) L s = s ≡ stands.Refused 12
+StandsAfter notes (Leaving n) L s = s ≡ stands.Refused overRow
+StandsAfter notes (Wrong kind place) L s = s ≡ stands.Refused overRow
 
 -- the record r against that of instant n on e, and where the machine then stands
 abbrev pub Compared : (notes : List ℕ) (n e : ℕ) (r : List ℕ) (i : Reaction) → Next → Type 0

@@ -9,6 +9,7 @@ ghost use Rattle.replay_call.specs.Following.{Stood, Follows};
 ghost use Rattle.checks.specs.Verdict.{Passed};
 use instants::Standing;
 use layout::SecondParts;
+use limits::rows;
 use notes::Notes;
 use program::Start;
 use reaction::Completion;
@@ -42,13 +43,13 @@ fn after(r: Reaction, notes: &Notes) -> Standing
 {
     let k = r.completion;
     match k {
-        Completion::Ended => Standing::Refused(12),
+        Completion::Ended => Standing::Refused(rows::OVER),
         Completion::Waiting => {
             let labels = r.labels;
             Standing::From(Start::Waiting(validity::ranks(labels, notes)))
         }
-        Completion::Leaving(_) => Standing::Refused(12),
-        Completion::Wrong(_, _) => Standing::Refused(12),
+        Completion::Leaving(_) => Standing::Refused(rows::OVER),
+        Completion::Wrong(_, _) => Standing::Refused(rows::OVER),
     }
 }
 
@@ -145,7 +146,7 @@ pub fn replay(sequence: &[u8], read_back: u32, recording: &[u8], place: &mut usi
         return number;
     }
     if recording.len() % RECORD_LENGTH != 0 {
-        return 22;
+        return rows::RECORDING;
     }
     *place = first_difference(sequence, &second, &notes, read_back, recording);
     0

@@ -13,6 +13,7 @@ ghost use Rattle.spec_language.specs.Reaction.{ifWaiting};
 ghost use Rattle.reaction.specs.Completions.{codeOf, isEnded};
 ghost use Rattle.theory_language.specs.Traced as Traces;
 use labels::Labels;
+use limits::kinds;
 use reaction::Completion;
 use reaction::Reaction;
 
@@ -22,7 +23,12 @@ pub fn in_loop(place: u16, p: Reaction) -> Reaction
 {
     let k = p.completion;
     if reaction::is_ended(k) {
-        reaction::failing(1, place, reaction::over_one(p.reactions), p.asked)
+        reaction::failing(
+            kinds::INSTANTANEOUS,
+            place,
+            reaction::over_one(p.reactions),
+            p.asked,
+        )
     } else {
         reaction::around(p, 0)
     }

@@ -1,4 +1,4 @@
--- The widths and limits of 01 and 02, each named once for the definitions; src/lib.rt names them for the code.
+-- The widths and limits of 01 and 02, each named once for the definitions; limits names them for the code.
 use Prim.Native.Nat.{ℕ, _-_, _^_}
 
 -- ---- 01, 'Commands', and 02, item 7: labels are 0 to 127, signals 0 to 31, exits 1 to 15
@@ -72,3 +72,120 @@ numberBytes = 4
 
 abbrev pub lastNumber : ℕ
 lastNumber = 256 ^ numberBytes - 1
+
+-- ---- 02, item 8: the bays of a box, and 'a shared ceiling of 65,536 reactions an instant'
+abbrev pub bayCount : ℕ
+bayCount = 8
+
+abbrev pub sharedCeiling : ℕ
+sharedCeiling = 65536
+
+-- ---- 02, item 11: 'at most six inputs of unknown status'
+abbrev pub maxUnknown : ℕ
+maxUnknown = 6
+
+-- ---- 02, item 12: a signal's number is its farm's
+abbrev pub farmCount : ℕ
+farmCount = signalCount
+
+-- ---- 01, 'One reaction': the kinds of error
+-- a loop whose body ended
+abbrev pub instantaneousKind : ℕ
+instantaneousKind = 1
+
+-- not reactive
+abbrev pub notReactiveKind : ℕ
+notReactiveKind = 2
+
+-- not strongly deterministic
+abbrev pub notDeterministicKind : ℕ
+notDeterministicKind = 3
+
+-- ---- 01, 'Turned down', and 02, items 8 to 14: the numbers that turn a call down
+-- a lent buffer's length
+abbrev pub lengthRow : ℕ
+lengthRow = 1
+
+-- a sequence of no bytes or too many
+abbrev pub bytesRow : ℕ
+bytesRow = 2
+
+-- a byte that is no command
+abbrev pub commandRow : ℕ
+commandRow = 3
+
+-- an operand or a statement missing
+abbrev pub missingRow : ℕ
+missingRow = 4
+
+-- an operand outside its range
+abbrev pub operandRow : ℕ
+operandRow = 5
+
+-- too deep, or too many signals around
+abbrev pub depthRow : ℕ
+depthRow = 6
+
+-- bytes behind the statement
+abbrev pub behindRow : ℕ
+behindRow = 7
+
+-- two pauses with one label
+abbrev pub twiceRow : ℕ
+twiceRow = 8
+
+-- a setpause whose label has no pause
+abbrev pub unpausedRow : ℕ
+unpausedRow = 9
+
+-- not well-formed
+abbrev pub formRow : ℕ
+formRow = 10
+
+-- a malformed state
+abbrev pub malformedRow : ℕ
+malformedRow = 11
+
+-- a machine that is over
+abbrev pub overRow : ℕ
+overRow = 12
+
+-- no such bay
+abbrev pub bayRow : ℕ
+bayRow = 13
+
+-- the shared ceiling
+abbrev pub ceilingRow : ℕ
+ceilingRow = 14
+
+-- not waiting, or no such position
+abbrev pub positionRow : ℕ
+positionRow = 15
+
+-- too many positions
+abbrev pub positionsRow : ℕ
+positionsRow = 16
+
+-- too many unknown inputs
+abbrev pub unknownRow : ℕ
+unknownRow = 17
+
+-- litres outside their range
+abbrev pub litresRow : ℕ
+litresRow = 18
+
+-- a farm's total that would pass the limit
+abbrev pub ledgerRow : ℕ
+ledgerRow = 19
+
+-- a setpause in a sequence to unroll
+abbrev pub setpauseRow : ℕ
+setpauseRow = 20
+
+-- a result too long or too deep
+abbrev pub unrolledRow : ℕ
+unrolledRow = 21
+
+-- a recording that is no whole number of records
+abbrev pub recordingRow : ℕ
+recordingRow = 22

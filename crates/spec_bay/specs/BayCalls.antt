@@ -11,7 +11,7 @@ use Rattle.spec_base.specs.Parts.{put}
 use Rattle.spec_tick.specs.StateRecord.{stateLength, stateRecord, phaseIn, labelsIn}
 use Rattle.spec_bay.specs.Table.{tableLength, lookup, Kept, kept, saveOf, forgetOf}
 use Rattle.spec_base.specs.Bytes.{leBytes}
-use Rattle.spec_base.specs.Limits.{numberBytes}
+use Rattle.spec_base.specs.Limits.{numberBytes, sharedCeiling, lengthRow, ceilingRow, positionRow, ledgerRow}
 use Rattle.spec_tick.specs.Record.{recordLength, recordOf, panelLength, panelOf}
 use Rattle.spec_tick.specs.Recording.{following}
 use lib.ListN.{length}
@@ -23,10 +23,6 @@ use Rattle.spec_bay.specs.Ledgers.{readingLength, passes, added, reading
 use Rattle.spec_bay.specs.Called.{Called, called}
 use Rattle.spec_bay.specs.Stretch.{stateAt, countAt, positionsAt, sequenceIn, readBackIn, serviceOnlyIn, stateIn, lastNumberIn, positionsIn, ledgerIn, vacated, withLedger, Terms, filled}
 
--- 02, item 8: 'a shared ceiling of 65,536 reactions an instant'
-abbrev pub sharedCeiling : ℕ
-sharedCeiling = 65536
-
 -- 02, item 12: what the tick on what the bay holds delivers to a farm; nothing where it is turned down, and nothing in a wrong instant
 abbrev pub delivering : (s : List ℕ) (e farm : ℕ) → ℕ
 delivering s e = deliveries (sequenceIn s) (readBackIn s) (stateIn s) e
@@ -37,7 +33,7 @@ delivering s e = deliveries (sequenceIn s) (readBackIn s) (stateIn s) e
 abbrev pub byOutcome : (s : List ℕ) (e : ℕ) (answer trace : List ℕ) (litres : ℕ → ℕ) → Outcome → Called
 byOutcome s e answer trace litres (outcome (suc n) state answered) = called (suc n) s (answer ∷ trace ∷ [])
 byOutcome s e answer trace litres (outcome zero state answered) =
-    cond (passes (ledgerIn s) litres) (called 19 s (answer ∷ trace ∷ []))
+    cond (passes (ledgerIn s) litres) (called ledgerRow s (answer ∷ trace ∷ []))
     (called 0
     (put countAt numberBytes (leBytes numberBytes (following (lastNumberIn s)))
     (withLedger (added litres (ledgerIn s)) (put stateAt stateLength state s)))
@@ -48,7 +44,7 @@ unfoldable pub bayTickOf : (s : List ℕ) (e : ℕ) (answer trace : List ℕ) �
 bayTickOf s e answer trace =
     cond (eqb (length trace) recordLength)
     (byOutcome s e answer trace (delivering s e) (tickOf (sequenceIn s) (stateIn s) e (readBackIn s) answer))
-    (called 1 s (answer ∷ trace ∷ []))
+    (called lengthRow s (answer ∷ trace ∷ []))
 
 unfoldable pub bayReleaseOf : (s : List ℕ) → Called
 bayReleaseOf s = called 0 (vacated s) []
@@ -58,7 +54,7 @@ abbrev pub byCheck : (present : ℕ) (s : List ℕ) → Terms → Checked → Ca
 byCheck present s t (bad number) = called number s []
 byCheck present s t (sound p) =
     cond (leb (present + ceiling (program (t .readBack) p)) sharedCeiling) (called 0 (filled t (ceiling (program (t .readBack) p)) s) [])
-    (called 14 s [])
+    (called ceilingRow s [])
 
 unfoldable pub bayAdmitOf : (present : ℕ) (s : List ℕ) → Terms → Called
 bayAdmitOf present s t = byCheck present s t (checked (t .sequence) (t .readBack))
@@ -71,14 +67,14 @@ positionsKept s (kept number t) = called number (put positionsAt tableLength t s
 -- 'the label set of a waiting machine': 15 for one that is not waiting, then 16 for a seventeenth name
 unfoldable pub baySaveOf : (s : List ℕ) (name : ℕ) → Called
 baySaveOf s name =
-    cond (eqb (phaseIn (stateIn s)) 1) (positionsKept s (saveOf name (labelsIn (stateIn s)) (positionsIn s))) (called 15 s [])
+    cond (eqb (phaseIn (stateIn s)) 1) (positionsKept s (saveOf name (labelsIn (stateIn s)) (positionsIn s))) (called positionRow s [])
 
 unfoldable pub bayForgetOf : (s : List ℕ) (name : ℕ) → Called
 bayForgetOf s name = positionsKept s (forgetOf name (positionsIn s))
 
 -- 'Coming back sets phase and labels', whatever the state was
 abbrev pub restored : List ℕ → Option ℕ → Called
-restored s none = called 15 s []
+restored s none = called positionRow s []
 restored s (some labels) = called 0 (put stateAt stateLength (stateRecord 1 labels) s) []
 
 unfoldable pub bayRestoreOf : (s : List ℕ) (name : ℕ) → Called
@@ -87,7 +83,7 @@ bayRestoreOf s name = restored s (lookup name (positionsIn s))
 -- ---- the readers of a record (02, item 10): any record of 37 bytes; they leave the slot
 abbrev pub showing : (s : List ℕ) (shown : List ℕ) (viewLength : ℕ) (trace view : List ℕ) → Called
 showing s shown viewLength trace view =
-    cond (eqb (length trace) recordLength && eqb (length view) viewLength) (called 0 s (shown ∷ [])) (called 1 s (view ∷ []))
+    cond (eqb (length trace) recordLength && eqb (length view) viewLength) (called 0 s (shown ∷ [])) (called lengthRow s (view ∷ []))
 
 -- 'The bay's service reader shows the record whole'
 unfoldable pub bayServiceOf : (s trace view : List ℕ) → Called
@@ -107,7 +103,7 @@ bayPreviewOf s e unknown buffer = stretchKept s (previewOf (sequenceIn s) (state
 -- ---- the ledger of the bay number (02, item 12)
 -- 'Reading it writes the 32 totals, then the ledger's total .. into 132 lent bytes'; the slot stays
 unfoldable pub bayLedgerOf : (s totals : List ℕ) → Called
-bayLedgerOf s totals = cond (eqb (length totals) readingLength) (called 0 s (readingOf (ledgerIn s) ∷ [])) (called 1 s (totals ∷ []))
+bayLedgerOf s totals = cond (eqb (length totals) readingLength) (called 0 s (readingOf (ledgerIn s) ∷ [])) (called lengthRow s (totals ∷ []))
 
 -- 'cleared only by a call for the new year'
 unfoldable pub bayNewYearOf : (s : List ℕ) → Called

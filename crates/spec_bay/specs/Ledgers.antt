@@ -7,15 +7,11 @@ use lib.Seq.{sets}
 use lib.IntN.{pos}
 use lib.Dec.{eqb, ltb}
 use lib.Ieee.{Float, binary32, ofBits, toBits, ofInt}
-use Rattle.spec_base.specs.Limits.{signalCount, litresLimit}
+use Rattle.spec_base.specs.Limits.{signalCount, litresLimit, farmCount}
 use Rattle.spec_base.specs.Sets.{member}
 use Rattle.spec_base.specs.Bytes.{leBytes, numberAt}
 use Rattle.spec_base.specs.WholeLitres.{whole, litres, ordered}
 use Rattle.spec_sequence.specs.Amounts.{amountSize, amountBytes}
-
--- a signal's number is its farm's
-abbrev pub farmCount : ℕ
-farmCount = signalCount
 
 abbrev pub ledgerLength : ℕ
 ledgerLength = farmCount * amountSize

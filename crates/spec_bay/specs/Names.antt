@@ -6,7 +6,7 @@ use mathlib.Core.Option.{Option, some, none}
 use mathlib.Core.List.{List, [], _∷_, List·Memᴰ}
 use lib.ListN.{length}
 use lib.Dec.{eqb, ltb}
-use Rattle.spec_base.specs.Limits.{maxPositions}
+use Rattle.spec_base.specs.Limits.{maxPositions, positionRow, positionsRow}
 
 pub data Position (T : Type 0) : Type 0 where
   position : (name : ℕ) (kept : T) → Position T
@@ -33,11 +33,11 @@ unfoldable pub saveNamed : {T : Type 0} → (name : ℕ) (kept : T) → List (Po
 saveNamed name t ps =
     cond (isKnown (find name ps) || ltb (length ps) maxPositions)
     (answered 0 (position name t ∷ without name ps))
-    (answered 16 ps)
+    (answered positionsRow ps)
 
 -- 'forgetting one frees its place for another'; '15 .. for an unknown name'
 unfoldable pub forgetNamed : {T : Type 0} → (name : ℕ) → List (Position T) → Answered T
-forgetNamed name ps = cond (isKnown (find name ps)) (answered 0 (without name ps)) (answered 15 ps)
+forgetNamed name ps = cond (isKnown (find name ps)) (answered 0 (without name ps)) (answered positionRow ps)
 
 abbrev pub numberAnswered : {T : Type 0} → Answered T → ℕ
 numberAnswered (answered number ps) = number

@@ -6,7 +6,7 @@ use mathlib.Core.Bool.{Bool, false, _||_, cond}
 use mathlib.Core.List.{List, [], _∷_, _++_}
 use lib.ListN.{length, getD, take, drop}
 use lib.Dec.{eqb, leb}
-use Rattle.spec_base.specs.Limits.{signalCount, signalBytes}
+use Rattle.spec_base.specs.Limits.{signalCount, signalBytes, maxUnknown, lengthRow, unknownRow}
 use Rattle.spec_base.specs.Sets.{member, join, common, difference, Subset, membersFrom}
 use Rattle.spec_base.specs.Widths.{complement}
 use Rattle.spec_base.specs.Subsets.{subsetsBelow}
@@ -94,16 +94,12 @@ number (previewed n buffer) = n
 abbrev pub bufferAfter : Previewed → List ℕ
 bufferAfter (previewed n buffer) = buffer
 
--- 'at most six inputs of unknown status'
-abbrev pub maxUnknown : ℕ
-maxUnknown = 6
-
 -- '17 for a seventh unknown'
 abbrev pub shownBy : (answers : ℕ → List ℕ) (input unknown : ℕ) (buffer : List ℕ) → Previewed
 shownBy answers input unknown buffer =
     cond (leb (length (membersFrom signalCount 0 unknown)) maxUnknown)
     (previewed 0 (previewBytes (findings answers input unknown)))
-    (previewed 17 buffer)
+    (previewed unknownRow buffer)
 
 -- 'after 12': the rows of the reply come before
 abbrev pub byReply : Reply → (shown : Previewed) (buffer : List ℕ) → Previewed
@@ -123,7 +119,7 @@ unfoldable pub previewOf : (sequence state : List ℕ) (input unknown readBack :
 previewOf sequence state input unknown readBack buffer =
     cond (eqb (length buffer) previewLength)
     (byReply (replyOf sequence state (difference input unknown) readBack) (shownBy (answersOf sequence state readBack) input unknown buffer) buffer)
-    (previewed 1 buffer)
+    (previewed lengthRow buffer)
 
 -- ---- more is known: fewer inputs unknown, and the status of every other one kept
 pub record Learned (input unknown input′ unknown′ : ℕ) : Type 0 where

@@ -5,14 +5,14 @@ use mathlib.Core.Logic.{_≢_, _↔_}
 use mathlib.Core.Bool.{Bool, true, false, cond}
 use mathlib.Core.List.{List}
 use lib.ListN.{length}
-use Rattle.spec_base.specs.Limits.{signalCount}
+use Rattle.spec_base.specs.Limits.{signalCount, maxUnknown, lengthRow, unknownRow}
 use Rattle.spec_base.specs.Sets.{member, insert, remove, Subset, membersFrom}
 use Rattle.spec_tick.specs.StateRecord.{stateLength}
 use Rattle.spec_tick.specs.AnswerRecord.{answerLength, codeIn, emittedIn}
 use Rattle.spec_tick.specs.Tick.{tickOf}
 use Rattle.spec_tick.specs.Demands as demands
 use Rattle.spec_tick.specs.Demands.{answerAfterwards}
-use Rattle.spec_bay.specs.Preview.{filled, openCode, previewLength, everyIn, neverIn, wrongIn, sharedIn, maxUnknown, Previewed, previewed, number, bufferAfter}
+use Rattle.spec_bay.specs.Preview.{filled, openCode, previewLength, everyIn, neverIn, wrongIn, sharedIn, Previewed, previewed, number, bufferAfter}
 
 -- sequence, state, input, unknown inputs, read-back set, buffer
 abbrev pub Previewing : Type 0
@@ -74,14 +74,14 @@ LearningKeeps preview =
 -- ---- 'Errors: number 1 for another length than 10; 17 for a seventh unknown, after 12', and no byte is written
 pub record PreviewErrors (preview : Previewing) : Type 0 where
   pub other-length : (sequence state : List ℕ) (readBack input unknown : ℕ) (buffer : List ℕ) → length buffer ≢ previewLength
-      → preview sequence state input unknown readBack buffer ≡ previewed 1 buffer
+      → preview sequence state input unknown readBack buffer ≡ previewed lengthRow buffer
   -- the number of a tick that is turned down from the same state, on any input
   pub ticks-number : (sequence state : List ℕ) (readBack : ℕ) (answer : List ℕ) → length state ≡ stateLength → length answer ≡ answerLength
       → (e input unknown : ℕ) (buffer : List ℕ) → length buffer ≡ previewLength → demands.number (tickOf sequence state e readBack answer) ≢ 0
       → preview sequence state input unknown readBack buffer ≡ previewed (demands.number (tickOf sequence state e readBack answer)) buffer
   pub seventh-unknown : (sequence state : List ℕ) (readBack : ℕ) (answer : List ℕ) → length state ≡ stateLength → length answer ≡ answerLength
       → (e input unknown : ℕ) (buffer : List ℕ) → length buffer ≡ previewLength → demands.number (tickOf sequence state e readBack answer) ≡ 0
-      → (maxUnknown < length (membersFrom signalCount 0 unknown) → preview sequence state input unknown readBack buffer ≡ previewed 17 buffer)
+      → (maxUnknown < length (membersFrom signalCount 0 unknown) → preview sequence state input unknown readBack buffer ≡ previewed unknownRow buffer)
       × (length (membersFrom signalCount 0 unknown) ≤ maxUnknown → number (preview sequence state input unknown readBack buffer) ≡ 0)
 
 -- no instant has the code 254

@@ -7,7 +7,7 @@ use mathlib.Core.Option.{Option, some, none}
 use mathlib.Core.List.{List, [], _∷_, _++_, List·Memᴰ}
 use lib.ListN.{length}
 use lib.Dec.{eqb, leb}
-use Rattle.spec_base.specs.Limits.{maxPositions, nameBytes}
+use Rattle.spec_base.specs.Limits.{maxPositions, nameBytes, positionRow, positionsRow}
 use Rattle.spec_base.specs.Bytes.{leBytes, leNumber}
 use Rattle.spec_tick.specs.StateRecord.{stateLength, labelsIn, stateRecord}
 use Rattle.spec_base.specs.Parts.{slot, put, zeros}
@@ -87,11 +87,11 @@ cleared i t = put (i * entryLength) entryLength (zeros entryLength) t
 
 -- 'Saving under a known name replaces it'; '16 for a seventeenth name'
 unfoldable pub saveOf : (name labels : ℕ) → List ℕ → Kept
-saveOf name labels t = there (kept 16 t) (λ i. kept 0 (written i name labels t)) (whereFor name t)
+saveOf name labels t = there (kept positionsRow t) (λ i. kept 0 (written i name labels t)) (whereFor name t)
 
 -- '15 .. for an unknown name'
 unfoldable pub forgetOf : (name : ℕ) → List ℕ → Kept
-forgetOf name t = there (kept 15 t) (λ i. kept 0 (cleared i t)) (whereIs name t)
+forgetOf name t = there (kept positionRow t) (λ i. kept 0 (cleared i t)) (whereIs name t)
 
 -- 16 names, each once, are known
 abbrev pub SixteenKnown : List ℕ → Type 0

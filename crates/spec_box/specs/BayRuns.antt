@@ -7,6 +7,7 @@ use mathlib.Core.Bool.{Bool, not, cond}
 use mathlib.Core.List.{List, [], _∷_, map, foldr}
 use lib.ListN.{length}
 use lib.Dec.{eqb}
+use Rattle.spec_base.specs.Limits.{ledgerRow}
 use Rattle.spec_language.specs.Statement.{Statement}
 use Rattle.spec_language.specs.States.{NoSetpause}
 use Rattle.spec_language.specs.Machines.{Rewriting}
@@ -44,7 +45,7 @@ overTicks counts taken call bay box xs =
 -- 'In a bay a call answered 19 is no instant', and leaves all as it was: it is no tick of the list; which
 -- ticks are answered 19 is Nineteen (Years)
 abbrev pub countsAsTick : (number : ℕ) → Bool
-countsAsTick n = not (eqb n 19)
+countsAsTick n = not (eqb n ledgerRow)
 
 -- an instant is a tick answered 0
 abbrev pub countsAsInstant : (number : ℕ) → Bool

@@ -5,13 +5,11 @@ use mathlib.Core.Bool.{Bool, true, not, cond}
 use mathlib.Core.List.{List, [], _∷_}
 use lib.ListN.{length}
 use lib.Dec.{eqb, ltb}
+use Rattle.spec_base.specs.Limits.{bayCount, lengthRow, bayRow}
 use Rattle.spec_base.specs.Parts.{slot, put, zeros}
 use Rattle.spec_bay.specs.Called.{Called, called}
 use Rattle.spec_bay.specs.Stretch.{stretchLength, isEmpty, partOf, Terms}
 use Rattle.spec_bay.specs.BayCalls.{bayTickOf, bayReleaseOf, bayAdmitOf, baySaveOf, bayForgetOf, bayRestoreOf, bayServiceOf, bayPanelOf, bayPreviewOf, bayLedgerOf, bayNewYearOf}
-
-abbrev pub bayCount : ℕ
-bayCount = 8
 
 abbrev pub boxLength : ℕ
 boxLength = bayCount * stretchLength
@@ -112,6 +110,6 @@ unfoldable pub callOf : (box : List ℕ) (bay : ℕ) → Call → Called
 callOf box bay c =
     cond (ltb bay bayCount)
     (cond (eqb (length box) boxLength)
-    (cond (isFor c (stretchOf bay box)) (inBox bay box (bayCall (present bayCount box) c (stretchOf bay box))) (called 13 box (buffers c)))
-    (called 1 box (buffers c)))
-    (called 13 box (buffers c))
+    (cond (isFor c (stretchOf bay box)) (inBox bay box (bayCall (present bayCount box) c (stretchOf bay box))) (called bayRow box (buffers c)))
+    (called lengthRow box (buffers c)))
+    (called bayRow box (buffers c))

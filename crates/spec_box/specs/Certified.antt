@@ -5,12 +5,12 @@ use mathlib.Core.Path.{_≡_}
 use mathlib.Core.Option.{Option, some, none}
 use mathlib.Core.List.{List, [], _∷_}
 use lib.ListN.{length}
-use Rattle.spec_base.specs.Limits.{litresLimit}
+use Rattle.spec_base.specs.Limits.{litresLimit, bayCount, farmCount}
 use Rattle.spec_base.specs.WholeLitres.{IsNumber, Near}
 use Rattle.spec_language.specs.States.{NoSetpause}
-use Rattle.spec_bay.specs.Ledgers.{farmCount, readingLength, fieldIn, readingFor, totalRead}
+use Rattle.spec_bay.specs.Ledgers.{readingLength, fieldIn, readingFor, totalRead}
 use Rattle.spec_bay.specs.Called.{number, lentAfter, first}
-use Rattle.spec_box.specs.Box.{bayCount, emptyBox, Call, ledger, onTick, onNewYear}
+use Rattle.spec_box.specs.Box.{emptyBox, Call, ledger, onTick, onNewYear}
 use Rattle.spec_box.specs.Lists.{Calling, Request, boxAfter, callsTo, inTurn}
 use Rattle.spec_box.specs.Shares.{AllSendable}
 use Rattle.spec_box.specs.Years.{sumOf}

@@ -5,12 +5,12 @@ use mathlib.Core.Path.{_≡_}
 use mathlib.Core.Logic.{_≢_, _↔_}
 use mathlib.Core.List.{List}
 use lib.ListN.{length}
+use Rattle.spec_base.specs.Limits.{sharedCeiling, bayCount, lengthRow, bayRow, ceilingRow}
 use Rattle.spec_sequence.specs.Check.{checked, checkOf}
 use Rattle.spec_sequence.specs.Ceilings.{ceilingOf}
 use Rattle.spec_bay.specs.Called.{called, number, memoryAfter, lentAfter}
 use Rattle.spec_bay.specs.Stretch.{lengthIn, sequenceIn, readBackIn, ceilingIn, partOf, Terms}
-use Rattle.spec_bay.specs.BayCalls.{sharedCeiling}
-use Rattle.spec_box.specs.Box.{bayCount, boxLength, emptyBox, stretchOf, present, Call, admit, release, onAdmit, onLedgers, buffers}
+use Rattle.spec_box.specs.Box.{boxLength, emptyBox, stretchOf, present, Call, admit, release, onAdmit, onLedgers, buffers}
 use Rattle.spec_box.specs.Lists.{Calling, Request, boxAfter, asked, answers}
 use Rattle.spec_box.specs.Shares.{AllSendable, sumOfReactions, OneTickEach}
 use Rattle.spec_box.specs.BayRuns.{TermsFixed, TicksInBay}
@@ -95,13 +95,13 @@ NotThere c s = onAdmit (onLedgers (lengthIn s ≡ 0) ⊥ c) (λ t. lengthIn s �
 abbrev pub Thirteen : Calling → Type 0
 Thirteen call =
     (box : List ℕ) → length box ≡ boxLength → (bay : ℕ) (c : Call)
-    → (number (call box bay c) ≡ 13) ↔ (bay < bayCount → NotThere c (stretchOf bay box))
+    → (number (call box bay c) ≡ bayRow) ↔ (bay < bayCount → NotThere c (stretchOf bay box))
 
 -- bytes that are no box, by their length, have bay numbers and no bays
 abbrev pub NoBox : Calling → Type 0
 NoBox call =
     (box : List ℕ) → length box ≢ boxLength → (bay : ℕ) (c : Call)
-    → (bayCount ≤ bay → number (call box bay c) ≡ 13) × (bay < bayCount → number (call box bay c) ≡ 1)
+    → (bayCount ≤ bay → number (call box bay c) ≡ bayRow) × (bay < bayCount → number (call box bay c) ≡ lengthRow)
 
 -- '14 for the sum, after the sequence's own check'
 abbrev pub Fourteen : Calling → Type 0
@@ -109,7 +109,7 @@ Fourteen call =
     (box : List ℕ) → length box ≡ boxLength → (bay : ℕ) → bay < bayCount → lengthIn (stretchOf bay box) ≡ 0
     → (t : Terms) → (checkOf (t .sequence) (t .readBack) ≢ 0 → number (call box bay (admit t)) ≡ checkOf (t .sequence) (t .readBack))
     × (checkOf (t .sequence) (t .readBack) ≡ 0
-    → (number (call box bay (admit t)) ≡ 14)
+    → (number (call box bay (admit t)) ≡ ceilingRow)
     ↔ (sharedCeiling < present bayCount box + ceilingOf (t .readBack) (checked (t .sequence) (t .readBack))))
 
 pub record BoxDemands (call : Calling) : Type 0 where

@@ -6,12 +6,12 @@ use mathlib.Core.Logic.{_≢_, _↔_}
 use mathlib.Core.Option.{some}
 use mathlib.Core.List.{List, [], _∷_}
 use lib.ListN.{length, getElem?}
-use Rattle.spec_base.specs.Limits.{lastNumber}
+use Rattle.spec_base.specs.Limits.{lastNumber, bayCount, lengthRow}
 use Rattle.spec_tick.specs.Record.{recordLength, recordOf, numberIn, panelLength, panelOf, Bytes, Agree}
 use Rattle.spec_tick.specs.Recording.{following}
 use Rattle.spec_bay.specs.Called.{called, number, memoryAfter, lentAfter, first}
 use Rattle.spec_bay.specs.Stretch.{lengthIn, stateIn, lastNumberIn, serviceOnlyIn}
-use Rattle.spec_box.specs.Box.{bayCount, boxLength, stretchOf, Call, tick, service, panel}
+use Rattle.spec_box.specs.Box.{boxLength, stretchOf, Call, tick, service, panel}
 use Rattle.spec_box.specs.Lists.{Calling, Request, boxAfter}
 use Rattle.spec_box.specs.BayRuns.{overTicks, countsAsInstant, OverBay}
 
@@ -70,12 +70,12 @@ abbrev pub ReaderNumbers : Calling → ((trace view : List ℕ) → Call) → (v
 ReaderNumbers call reader viewLength =
     (box : List ℕ) → length box ≡ boxLength → (bay : ℕ) → bay < bayCount → lengthIn (stretchOf bay box) ≢ 0 → (trace view : List ℕ)
     → ((number (call box bay (reader trace view)) ≡ 0) ↔ ((length trace ≡ recordLength) × (length view ≡ viewLength)))
-    × (number (call box bay (reader trace view)) ≢ 0 → number (call box bay (reader trace view)) ≡ 1)
+    × (number (call box bay (reader trace view)) ≢ 0 → number (call box bay (reader trace view)) ≡ lengthRow)
 
 abbrev pub RecordLength : Calling → Type 0
 RecordLength call =
     (box : List ℕ) → length box ≡ boxLength → (bay : ℕ) → bay < bayCount → lengthIn (stretchOf bay box) ≢ 0
-    → (e : ℕ) (answer trace : List ℕ) → length trace ≢ recordLength → number (call box bay (tick e answer trace)) ≡ 1
+    → (e : ℕ) (answer trace : List ℕ) → length trace ≢ recordLength → number (call box bay (tick e answer trace)) ≡ lengthRow
 
 pub record RecordDemands (call : Calling) : Type 0 where
   pub record-is : RecordIs call

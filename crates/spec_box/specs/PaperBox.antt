@@ -8,7 +8,7 @@ use mathlib.Core.Option.{Option, some, none}
 use mathlib.Core.List.{List, [], _∷_}
 use lib.ListN.{length}
 use lib.Dec.{eqb, leb, ltb}
-use Rattle.spec_base.specs.Limits.{signalBytes}
+use Rattle.spec_base.specs.Limits.{signalBytes, farmCount, sharedCeiling, bayCount, lengthRow, overRow, bayRow, ceilingRow, positionRow, ledgerRow}
 use Rattle.spec_language.specs.Statement.{Statement}
 use Rattle.spec_language.specs.Ceiling.{ceiling}
 use Rattle.spec_language.specs.Machines.{Seen, instant, refused, Machine, State, byLabels, addsByLabels, Rewriting, byRewriting, addsByRewriting}
@@ -22,11 +22,10 @@ use Rattle.spec_tick.specs.Demands.{report}
 use Rattle.spec_tick.specs.Record.{recordLength, recordOf, numberIn, inputIn, answerIn, stateIn, panelLength, panelOf}
 use Rattle.spec_tick.specs.Recording.{following}
 use Rattle.spec_bay.specs.Names.{Position, find, Answered, answered, saveNamed, forgetNamed}
-use Rattle.spec_bay.specs.Ledgers.{farmCount, readingLength, readingFor, wouldPass}
+use Rattle.spec_bay.specs.Ledgers.{readingLength, readingFor, wouldPass}
 use Rattle.spec_bay.specs.Preview.{Previewed, previewed, previewLength, shownBy}
 use Rattle.spec_bay.specs.Stretch.{Terms}
-use Rattle.spec_bay.specs.BayCalls.{sharedCeiling}
-use Rattle.spec_box.specs.Box.{bayCount, Call, admit, release, tick, save, restore, forget, service, panel, preview, ledger, newYear, buffers}
+use Rattle.spec_box.specs.Box.{Call, admit, release, tick, save, restore, forget, service, panel, preview, ledger, newYear, buffers}
 
 -- ---- the machine of a bay: its states are S, a position keeps T of it, and R is told of an instant
 pub record BayMachine (S T R : Type 0) : Type 0 where
@@ -172,7 +171,7 @@ module _ {S T R : Type 0} (m : BayMachine S T R) where
   abbrev pub admitOn : (present : ℕ) → PaperPlace S T → Terms → Checked → PaperReply S T R
   admitOn present z t (bad n) = down n [] z
   admitOn present z t (sound p) =
-      cond (leb (present + ceiling (program (t .readBack) p)) sharedCeiling) (holds z (some (freshBay t p))) (down 14 [] z)
+      cond (leb (present + ceiling (program (t .readBack) p)) sharedCeiling) (holds z (some (freshBay t p))) (down ceilingRow [] z)
 
   -- ITEMS 10 AND 12. 12 where the machine is over; '19, last of all and writing nothing'; else an instant, which moves the machine, is
   -- counted, and adds its litres to the totals
@@ -180,9 +179,9 @@ module _ {S T R : Type 0} (m : BayMachine S T R) where
   addsOn b e f = m .adds (programOf b) f (b .machine) e
 
   abbrev pub tickOn : PaperPlace S T → PaperBay S T → (e : ℕ) (lent : List (List ℕ)) → Seen → S → PaperReply S T R
-  tickOn z b e lent refused w = down 12 lent z
+  tickOn z b e lent refused w = down overRow lent z
   tickOn z b e lent (instant k x o n after) w =
-      cond (wouldPass farmCount (z .totals) (addsOn b e)) (down 19 lent z) (
+      cond (wouldPass farmCount (z .totals) (addsOn b e)) (down ledgerRow lent z) (
         ticked (m .tells (instant k x o n after) w (following (b .last)) e),
         record { bay = some (withMachine b w (following (b .last))); totals = λ f. z .totals f + addsOn b e f },
       )
@@ -192,12 +191,12 @@ module _ {S T R : Type 0} (m : BayMachine S T R) where
   renamedOn z b (answered n ps) = (replies n [], record { bay = some (withPositions b ps); totals = z .totals })
 
   abbrev pub saveOn : PaperPlace S T → PaperBay S T → (name : ℕ) → Option T → PaperReply S T R
-  saveOn z b name none = down 15 [] z
+  saveOn z b name none = down positionRow [] z
   saveOn z b name (some t) = renamedOn z b (saveNamed name t (b .positions))
 
   -- coming back sets the machine to what was saved, whatever it was; the number goes on, and the totals stay
   abbrev pub restoreOn : PaperPlace S T → PaperBay S T → Option T → PaperReply S T R
-  restoreOn z b none = down 15 [] z
+  restoreOn z b none = down positionRow [] z
   restoreOn z b (some t) = holds z (some (withMachine b (m .back t) (b .last)))
 
   -- ITEM 11. 12 where the machine is over, then 17; 'The machine stays'
@@ -205,21 +204,21 @@ module _ {S T R : Type 0} (m : BayMachine S T R) where
   previewedOn z (previewed n bytes) = (replies n (bytes ∷ []), z)
 
   abbrev pub previewOn : PaperPlace S T → PaperBay S T → (e unknown : ℕ) (buffer : List ℕ) → Seen → PaperReply S T R
-  previewOn z b e unknown buffer refused = down 12 (buffer ∷ []) z
+  previewOn z b e unknown buffer refused = down overRow (buffer ∷ []) z
   previewOn z b e unknown buffer (instant k x o n after) =
       previewedOn z (shownBy (λ i. answerSeen (m .react (programOf b) (b .machine) i .0)) e unknown buffer)
 
   -- number 1 for a buffer of another length
   abbrev pub sized : Bool → (lent : List (List ℕ)) → PaperPlace S T → PaperReply S T R → PaperReply S T R
-  sized right lent z reply = cond right reply (down 1 lent z)
+  sized right lent z reply = cond right reply (down lengthRow lent z)
 
   -- '13 .. for .. one already filled on admission, or an empty one otherwise'
   abbrev pub ifEmpty : Option (PaperBay S T) → PaperPlace S T → PaperReply S T R → PaperReply S T R
   ifEmpty none z reply = reply
-  ifEmpty (some b) z reply = down 13 [] z
+  ifEmpty (some b) z reply = down bayRow [] z
 
   abbrev pub ifFilled : Option (PaperBay S T) → (lent : List (List ℕ)) → PaperPlace S T → (PaperBay S T → PaperReply S T R) → PaperReply S T R
-  ifFilled none lent z reply = down 13 lent z
+  ifFilled none lent z reply = down bayRow lent z
   ifFilled (some b) lent z reply = reply b
 
   -- EACH CALL under a bay number, where those present have so much of the shared ceiling; 'The ledger's calls take an empty bay too'
@@ -255,4 +254,4 @@ module _ {S T R : Type 0} (m : BayMachine S T R) where
   paperCall box bay c =
       cond (ltb bay bayCount)
       (placeCall (presentOn bayCount box) c (box bay) .0, withPlace box bay (placeCall (presentOn bayCount box) c (box bay) .1))
-      (replies 13 (buffers c), box)
+      (replies bayRow (buffers c), box)

@@ -5,6 +5,7 @@ use mathlib.Core.Path.{_≡_}
 use mathlib.Core.Logic.{_≢_, _↔_}
 use mathlib.Core.Option.{some, none}
 use mathlib.Core.List.{List, []}
+use Rattle.spec_base.specs.Limits.{bayCount, positionRow, positionsRow}
 use Rattle.spec_language.specs.Statement.{Statement}
 use Rattle.spec_language.specs.States.{Valid}
 use Rattle.spec_language.specs.Expansion.{expand}
@@ -16,7 +17,7 @@ use Rattle.spec_bay.specs.Names.{Position, find, saveNamed, forgetNamed, positi
 use Rattle.spec_bay.specs.Table.{lookup, SixteenKnown}
 use Rattle.spec_bay.specs.Called.{number, memoryAfter}
 use Rattle.spec_bay.specs.Stretch.{stateAt, lengthIn, sequenceIn, stateIn, positionsIn, Terms}
-use Rattle.spec_box.specs.Box.{bayCount, emptyBox, stretchOf, Call, admit, release, save, restore, forget, onRelease, onSave, onForget}
+use Rattle.spec_box.specs.Box.{emptyBox, stretchOf, Call, admit, release, save, restore, forget, onRelease, onSave, onForget}
 use Rattle.spec_box.specs.Lists.{Calling, Request, afterCall, boxAfter, callsTo, inTurn, ifAnswered}
 use Rattle.spec_box.specs.Shares.{Sendable, AllSendable}
 use Rattle.spec_box.specs.BayRuns.{NotTakenOut, Onwards, RunOf, Rewrites}
@@ -51,18 +52,18 @@ PositionsValid box =
 abbrev pub SaveNumbers : Calling → List ℕ → Type 0
 SaveNumbers call box =
     (bay : ℕ) → bay < bayCount → lengthIn (stretchOf bay box) ≢ 0 → (name : ℕ)
-    → ((number (call box bay (save name)) ≡ 15) ↔ (phaseIn (stateIn (stretchOf bay box)) ≢ 1))
-    × ((number (call box bay (save name)) ≡ 16)
+    → ((number (call box bay (save name)) ≡ positionRow) ↔ (phaseIn (stateIn (stretchOf bay box)) ≢ 1))
+    × ((number (call box bay (save name)) ≡ positionsRow)
     ↔ ((phaseIn (stateIn (stretchOf bay box)) ≡ 1) × (lookup name (positionsIn (stretchOf bay box)) ≡ none)
     × SixteenKnown (positionsIn (stretchOf bay box))))
-    × (number (call box bay (save name)) ≢ 15 → number (call box bay (save name)) ≢ 16 → number (call box bay (save name)) ≡ 0)
+    × (number (call box bay (save name)) ≢ positionRow → number (call box bay (save name)) ≢ positionsRow → number (call box bay (save name)) ≡ 0)
 
 -- '15 .. for an unknown name to come back to or forget'
 abbrev pub KnownOnly : Calling → ((name : ℕ) → Call) → List ℕ → Type 0
 KnownOnly call c box =
     (bay : ℕ) → bay < bayCount → lengthIn (stretchOf bay box) ≢ 0 → (name : ℕ)
-    → ((number (call box bay (c name)) ≡ 15) ↔ (lookup name (positionsIn (stretchOf bay box)) ≡ none))
-    × (number (call box bay (c name)) ≢ 15 → number (call box bay (c name)) ≡ 0)
+    → ((number (call box bay (c name)) ≡ positionRow) ↔ (lookup name (positionsIn (stretchOf bay box)) ≡ none))
+    × (number (call box bay (c name)) ≢ positionRow → number (call box bay (c name)) ≡ 0)
 
 -- ---- every box, whatever its bytes
 -- 'Coming back sets phase and labels', and nothing else of the bay

@@ -5,6 +5,7 @@ use mathlib.Core.Logic.{_≢_, _⊎_}
 use mathlib.Core.Bool.{Bool, true, false}
 use mathlib.Core.List.{List, [], _∷_}
 use lib.ListN.{length}
+use Rattle.spec_base.specs.Limits.{bayCount, ledgerRow}
 use Rattle.spec_base.specs.Sets.{member, remove, Subset, Disjoint}
 use Rattle.spec_tick.specs.AnswerRecord.{answerLength, codeIn, emittedIn}
 use Rattle.spec_tick.specs.Tick.{tickOf}
@@ -15,7 +16,7 @@ use Rattle.spec_bay.specs.Preview.{filled, openCode, previewLength, everyIn, ne
 use Rattle.spec_bay.specs.PreviewClaims.{PreviewIs, StaysShown, knowing}
 use Rattle.spec_bay.specs.Called.{called, number, memoryAfter, lentAfter, first}
 use Rattle.spec_bay.specs.Stretch.{lengthIn, sequenceIn, readBackIn, stateIn}
-use Rattle.spec_box.specs.Box.{bayCount, boxLength, stretchOf, tick, preview}
+use Rattle.spec_box.specs.Box.{boxLength, stretchOf, tick, preview}
 use Rattle.spec_box.specs.Lists.{Calling}
 
 -- the preview of the sequence, state and read-back set that the bay holds
@@ -97,7 +98,7 @@ abbrev pub PreviewedTicks : Calling → Type 0
 PreviewedTicks call =
     (box : List ℕ) (bay e unknown : ℕ) (buffer : List ℕ) → number (call box bay (preview e unknown buffer)) ≡ 0
     → (input : ℕ) (answer trace : List ℕ) → length answer ≡ answerLength → length trace ≡ recordLength
-    → (number (call box bay (tick input answer trace)) ≡ 0) ⊎ (number (call box bay (tick input answer trace)) ≡ 19)
+    → (number (call box bay (tick input answer trace)) ≡ 0) ⊎ (number (call box bay (tick input answer trace)) ≡ ledgerRow)
 
 -- no tick of a bay answered 0 has the code 254, which a preview has for "open"
 abbrev pub NeverOpen : Calling → Type 0

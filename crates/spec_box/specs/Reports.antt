@@ -5,6 +5,7 @@ use mathlib.Core.Bool.{Bool, true, false, _&&_, cond}
 use mathlib.Core.Option.{Option, some, none}
 use mathlib.Core.List.{List, [], _∷_, List·Memᴰ}
 use lib.Dec.{eqb}
+use Rattle.spec_base.specs.Limits.{farmCount, bayCount}
 use Rattle.spec_language.specs.Statement.{Statement}
 use Rattle.spec_language.specs.States.{NoSetpause}
 use Rattle.spec_language.specs.Machines.{State}
@@ -13,10 +14,10 @@ use Rattle.spec_sequence.specs.Rows.{Spells}
 use Rattle.spec_tick.specs.StateRecord.{encodeState}
 use Rattle.spec_bay.specs.Names.{find}
 use Rattle.spec_bay.specs.Table.{lookup}
-use Rattle.spec_bay.specs.Ledgers.{farmCount, totalIn}
+use Rattle.spec_bay.specs.Ledgers.{totalIn}
 use Rattle.spec_bay.specs.Called.{Called, number, lentAfter, first}
 use Rattle.spec_bay.specs.Stretch.{lengthIn, sequenceIn, readBackIn, ceilingIn, serviceOnlyIn, stateIn, lastNumberIn, positionsIn, ledgerIn, Terms}
-use Rattle.spec_box.specs.Box.{bayCount, emptyBox, stretchOf, Call, admit, onTick}
+use Rattle.spec_box.specs.Box.{emptyBox, stretchOf, Call, admit, onTick}
 use Rattle.spec_box.specs.Lists.{Calling, Request, afterCall, boxAfter}
 use Rattle.spec_box.specs.Instants.{second}
 use Rattle.spec_box.specs.Shares.{AllSendable}

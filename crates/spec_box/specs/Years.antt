@@ -6,16 +6,16 @@ use mathlib.Core.Logic.{_≢_, _↔_}
 use mathlib.Core.Bool.{true}
 use mathlib.Core.List.{List, [], _∷_}
 use lib.ListN.{length}
-use Rattle.spec_base.specs.Limits.{litresLimit}
+use Rattle.spec_base.specs.Limits.{litresLimit, bayCount, farmCount}
 use Rattle.spec_base.specs.WholeLitres.{whole, Near}
 use Rattle.spec_bay.specs.Ledgers as Ledgers
-use Rattle.spec_bay.specs.Ledgers.{farmCount, readingLength, fieldIn, totalIn, exactTotal, readingOf, totalRead}
+use Rattle.spec_bay.specs.Ledgers.{readingLength, fieldIn, totalIn, exactTotal, readingOf, totalRead}
 use Rattle.spec_tick.specs.Tick.{tickOf}
 use Rattle.spec_tick.specs.Demands as demands
 use Rattle.spec_bay.specs.Called.{called, number, memoryAfter}
 use Rattle.spec_bay.specs.Stretch.{lengthIn, sequenceIn, readBackIn, stateIn, ledgerIn, withLedger}
 use Rattle.spec_bay.specs.BayCalls.{delivering}
-use Rattle.spec_box.specs.Box.{bayCount, boxLength, emptyBox, stretchOf, Call, tick, preview, ledger, newYear, onTick, onNewYear}
+use Rattle.spec_box.specs.Box.{boxLength, emptyBox, stretchOf, Call, tick, preview, ledger, newYear, onTick, onNewYear}
 use Rattle.spec_box.specs.Lists.{Calling, Request, afterCall, boxAfter, callsTo, inTurn, ifAnswered}
 use Rattle.spec_box.specs.BayRuns.{paperBuffer, TicksInBay}
 use Rattle.spec_box.specs.Positions.{TicksFromPosition}

@@ -7,6 +7,7 @@ use mathlib.Core.Bool.{Bool, true, false, _&&_, _||_}
 use mathlib.Core.Option.{Option, some, none}
 use mathlib.Core.List.{List, [], _∷_, _++_}
 use lib.Dec.{eqb, ltb}
+use Rattle.spec_base.specs.Limits.{lengthRow, bytesRow, commandRow, missingRow, operandRow, depthRow, behindRow, twiceRow, unpausedRow, formRow, malformedRow, overRow, bayRow, ceilingRow, positionRow, positionsRow, unknownRow, litresRow, ledgerRow, setpauseRow, unrolledRow, recordingRow}
 use Rattle.spec_sequence.specs.Amounts.{areBytes}
 use Rattle.spec_sequence.specs.Check.{checked, checkOf}
 use Rattle.spec_sequence.specs.Ceilings.{ceilingOf}
@@ -108,7 +109,7 @@ passable bytes (beginsYear box bay) = placed (bytes box) bay
 -- ---- THE TABLE
 -- a sequence that is turned down: 01, 'the check 2 to 10', and 02, item 12, '18, at its command right after 5'
 abbrev pub refusals : List ℕ
-refusals = 2 ∷ 3 ∷ 4 ∷ 5 ∷ 6 ∷ 7 ∷ 8 ∷ 9 ∷ 10 ∷ 18 ∷ []
+refusals = bytesRow ∷ commandRow ∷ missingRow ∷ operandRow ∷ depthRow ∷ behindRow ∷ twiceRow ∷ unpausedRow ∷ formRow ∷ litresRow ∷ []
 
 -- for boxes that calls reach from the empty one
 abbrev pub rowFor : CallName → List ℕ
@@ -116,28 +117,28 @@ abbrev pub rowFor : CallName → List ℕ
 rowFor intake-check = 0 ∷ refusals
 rowFor intake-ceiling = []
 -- 'The tick gives 1 to 12'; 'The tick on its own knows no ledger and never gives 19'
-rowFor intake-tick = 0 ∷ 1 ∷ 11 ∷ 12 ∷ refusals
+rowFor intake-tick = 0 ∷ lengthRow ∷ malformedRow ∷ overRow ∷ refusals
 -- item 13: 'number 1 for another buffer length; after the original's own check, 20 if it has a setpause; then 21 ..'
-rowFor intake-unroll = 0 ∷ 1 ∷ 20 ∷ 21 ∷ refusals
+rowFor intake-unroll = 0 ∷ lengthRow ∷ setpauseRow ∷ unrolledRow ∷ refusals
 -- item 14: '22, after the sequence's check, for a length that isn't a multiple of 37'
-rowFor intake-replay = 0 ∷ 22 ∷ refusals
+rowFor intake-replay = 0 ∷ recordingRow ∷ refusals
 -- item 8: '13, before all others, ..; 14 for the sum, after the sequence's own check'
-rowFor intake-box-admit = 0 ∷ 13 ∷ 14 ∷ refusals
-rowFor intake-box-release = 0 ∷ 13 ∷ []
+rowFor intake-box-admit = 0 ∷ bayRow ∷ ceilingRow ∷ refusals
+rowFor intake-box-release = 0 ∷ bayRow ∷ []
 -- item 12: '19, last of all and writing nothing'; the state of a bay is never one that row 11 turns down
-rowFor intake-box-tick = 0 ∷ 1 ∷ 12 ∷ 13 ∷ 19 ∷ []
+rowFor intake-box-tick = 0 ∷ lengthRow ∷ overRow ∷ bayRow ∷ ledgerRow ∷ []
 -- item 9: '15 to save a machine that isn't waiting, or for an unknown name to come back to or forget; then 16 for a seventeenth name'
-rowFor intake-box-save = 0 ∷ 13 ∷ 15 ∷ 16 ∷ []
-rowFor intake-box-restore = 0 ∷ 13 ∷ 15 ∷ []
-rowFor intake-box-forget = 0 ∷ 13 ∷ 15 ∷ []
+rowFor intake-box-save = 0 ∷ bayRow ∷ positionRow ∷ positionsRow ∷ []
+rowFor intake-box-restore = 0 ∷ bayRow ∷ positionRow ∷ []
+rowFor intake-box-forget = 0 ∷ bayRow ∷ positionRow ∷ []
 -- item 10: 'number 1 for a record or service bytes not of 37, or panel bytes not 13'
-rowFor intake-box-service = 0 ∷ 1 ∷ 13 ∷ []
-rowFor intake-box-panel = 0 ∷ 1 ∷ 13 ∷ []
+rowFor intake-box-service = 0 ∷ lengthRow ∷ bayRow ∷ []
+rowFor intake-box-panel = 0 ∷ lengthRow ∷ bayRow ∷ []
 -- item 11: 'number 1 for another length than 10; 17 for a seventh unknown, after 12'; item 12: 'Previews .. never give 19'
-rowFor intake-box-preview = 0 ∷ 1 ∷ 12 ∷ 13 ∷ 17 ∷ []
+rowFor intake-box-preview = 0 ∷ lengthRow ∷ overRow ∷ bayRow ∷ unknownRow ∷ []
 -- item 12: 'number 1 for a ledger reading not of 132 bytes'; a new year has no error but 13 for a bay number above 7
-rowFor intake-box-ledger = 0 ∷ 1 ∷ 13 ∷ []
-rowFor intake-box-new-year = 0 ∷ 13 ∷ []
+rowFor intake-box-ledger = 0 ∷ lengthRow ∷ bayRow ∷ []
+rowFor intake-box-new-year = 0 ∷ bayRow ∷ []
 
 -- In a box of any bytes there is 1 also, for a box of another length, and where a machine is asked, what turns its sequence or state down.
 abbrev pub alsoAnywhere : CallName → List ℕ
@@ -146,17 +147,17 @@ alsoAnywhere intake-ceiling = []
 alsoAnywhere intake-tick = []
 alsoAnywhere intake-unroll = []
 alsoAnywhere intake-replay = []
-alsoAnywhere intake-box-admit = 1 ∷ []
-alsoAnywhere intake-box-release = 1 ∷ []
-alsoAnywhere intake-box-tick = 11 ∷ refusals
-alsoAnywhere intake-box-save = 1 ∷ []
-alsoAnywhere intake-box-restore = 1 ∷ []
-alsoAnywhere intake-box-forget = 1 ∷ []
+alsoAnywhere intake-box-admit = lengthRow ∷ []
+alsoAnywhere intake-box-release = lengthRow ∷ []
+alsoAnywhere intake-box-tick = malformedRow ∷ refusals
+alsoAnywhere intake-box-save = lengthRow ∷ []
+alsoAnywhere intake-box-restore = lengthRow ∷ []
+alsoAnywhere intake-box-forget = lengthRow ∷ []
 alsoAnywhere intake-box-service = []
 alsoAnywhere intake-box-panel = []
-alsoAnywhere intake-box-preview = 11 ∷ refusals
+alsoAnywhere intake-box-preview = malformedRow ∷ refusals
 alsoAnywhere intake-box-ledger = []
-alsoAnywhere intake-box-new-year = 1 ∷ []
+alsoAnywhere intake-box-new-year = lengthRow ∷ []
 
 abbrev pub rowAnywhere : CallName → List ℕ
 rowAnywhere name = alsoAnywhere name ++ rowFor name

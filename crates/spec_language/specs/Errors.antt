@@ -4,6 +4,7 @@ use Prim.Native.Nat.{ℕ}
 use mathlib.Core.Bool.{cond}
 use mathlib.Core.Option.{Option, some}
 use mathlib.Core.List.{List, [], _∷_, _++_, head?}
+use Rattle.spec_base.specs.Limits.{instantaneousKind, notReactiveKind, notDeterministicKind}
 use Rattle.spec_base.specs.Sets.{member, insert, remove}
 use Rattle.spec_language.specs.Statement.{Statement, nothing, pause, emit, exit, seq, par, loop, present, signal, try, setpause, suspend, held}
 use Rattle.spec_language.specs.Reaction.{Code, ended, waiting, leaving, wrong, Reaction, code, Case, both, neither, only−, only+, inherited, Order, inheritanceFirst, caseOf, reactBy}
@@ -15,13 +16,13 @@ pub record Error : Type 0 where
 
 -- kind 1: a loop whose body ended; kind 2: not reactive; kind 3: not strongly deterministic
 abbrev pub instantaneous : ℕ → Error
-instantaneous a = record { kind = 1; place = a }
+instantaneous a = record { kind = instantaneousKind; place = a }
 
 abbrev pub notReactive : ℕ → Error
-notReactive a = record { kind = 2; place = a }
+notReactive a = record { kind = notReactiveKind; place = a }
 
 abbrev pub notDeterministic : ℕ → Error
-notDeterministic a = record { kind = 3; place = a }
+notDeterministic a = record { kind = notDeterministicKind; place = a }
 
 -- what counts only where code 0 led on to it
 abbrev pub ifEnded {ℓ} : {A : Type ℓ} → Code → A → A → A

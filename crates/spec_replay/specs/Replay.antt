@@ -4,6 +4,7 @@ use mathlib.Core.Bool.{Bool, true, false, _&&_, cond}
 use mathlib.Core.List.{List, [], _∷_, map}
 use lib.ListN.{length, take, drop}
 use lib.Dec.{eqb}
+use Rattle.spec_base.specs.Limits.{recordingRow}
 use Rattle.spec_sequence.specs.Check.{checkOf}
 use Rattle.spec_tick.specs.Record.{recordLength, inputIn}
 use Rattle.spec_tick.specs.Recording.{recordingOf}
@@ -50,7 +51,7 @@ place (replayed n k) = k
 
 -- '22, after the sequence's check, for a length that isn't a multiple of 37'
 abbrev pub byLength : (recording : List ℕ) (place : ℕ) → Replayed
-byLength recording place = cond (eqb (length recording % recordLength) 0) (replayed 0 place) (replayed 22 0)
+byLength recording place = cond (eqb (length recording % recordLength) 0) (replayed 0 place) (replayed recordingRow 0)
 
 -- 'beside the number it gives a place, 0 after an error'
 abbrev pub byCheck : (number : ℕ) → (accepted : Replayed) → Replayed

@@ -5,6 +5,7 @@ use mathlib.Core.Logic.{_≢_, _↔_}
 use mathlib.Core.Option.{some}
 use mathlib.Core.List.{List, [], map}
 use lib.ListN.{length, getElem?}
+use Rattle.spec_base.specs.Limits.{recordingRow}
 use Rattle.spec_language.specs.Statement.{Statement}
 use Rattle.spec_language.specs.States.{NoSetpause}
 use Rattle.spec_language.specs.Machines.{Rewriting}
@@ -31,7 +32,7 @@ Refuses replay =
 abbrev pub TwentyTwo : Replay → Type 0
 TwentyTwo replay =
     (sequence : List ℕ) (readBack : ℕ) (recording : List ℕ)
-    → (number (replay sequence readBack recording) ≡ 22) ↔ ((checkOf sequence readBack ≡ 0) × (length recording % recordLength ≢ 0))
+    → (number (replay sequence readBack recording) ≡ recordingRow) ↔ ((checkOf sequence readBack ≡ 0) × (length recording % recordLength ≢ 0))
 
 abbrev pub NoPlace : Replay → Type 0
 NoPlace replay =

@@ -7,7 +7,7 @@ use mathlib.Core.List.{List, [], _∷_}
 use lib.ListN.{drop}
 use lib.Dec.{ltb}
 use Rattle.spec_language.specs.Statement.{Statement, nothing}
-use Rattle.spec_base.specs.Limits.{maxDepth, maxSignals}
+use Rattle.spec_base.specs.Limits.{maxDepth, maxSignals, commandRow, missingRow, operandRow, depthRow, litresRow}
 use Rattle.spec_sequence.specs.Commands.{Command, commandOf, operandCount, partCount, inRange, litresFit, headLength, declares, build}
 
 pub data Read : Type 0 where
@@ -30,15 +30,15 @@ firstBytes (suc n) [] = none
 firstBytes (suc n) (x ∷ bs) = after x (firstBytes n bs)
 
 abbrev pub withOperands : Command → Option (List ℕ) → Front
-withOperands c none = bad 4
-withOperands c (some xs) = cond (inRange c xs) (cond (litresFit c xs) (command c xs) (bad 18)) (bad 5)
+withOperands c none = bad missingRow
+withOperands c (some xs) = cond (inRange c xs) (cond (litresFit c xs) (command c xs) (bad litresRow)) (bad operandRow)
 
 abbrev pub withCommand : Option Command → List ℕ → Front
-withCommand none bs = bad 3
+withCommand none bs = bad commandRow
 withCommand (some c) bs = withOperands c (firstBytes (operandCount c) bs)
 
 unfoldable pub front : List ℕ → Front
-front [] = bad 4
+front [] = bad missingRow
 front (b ∷ bs) = withCommand (commandOf b) bs
 
 -- ---- the parts of a command c at offset a with operands xs, by a reader r of parts, given their offset and their bytes
@@ -62,12 +62,12 @@ readParts r c a xs (suc (suc n)) bs =
 -- row 6: no depth left for the command, or no signal left for a signal command
 abbrev pub tooDeep : Front → Read
 tooDeep (bad number) = refused number
-tooDeep (command c xs) = refused 6
+tooDeep (command c xs) = refused depthRow
 
 abbrev pub readCommand : (ℕ → ℕ → List ℕ → Read) → (signals a : ℕ) → List ℕ → Front → Read
 readCommand r signals a bs (bad number) = refused number
 readCommand r signals a bs (command c xs) =
-    cond (ltb signals (declares c)) (refused 6) (readParts (r (signals - declares c)) c a xs (partCount c) bs)
+    cond (ltb signals (declares c)) (refused depthRow) (readParts (r (signals - declares c)) c a xs (partCount c) bs)
 
 -- The statement at offset a, where `depth` levels and `signals` signal commands are still allowed.
 unfoldable pub read : (depth signals a : ℕ) → List ℕ → Read

@@ -10,7 +10,7 @@ use lib.ListN.{length, drop, replicate}
 use lib.Dec.{leb, ltb, eqb}
 use Rattle.spec_language.specs.Statement.{Statement}
 use Rattle.spec_language.specs.States.{Distinct, Targeted, WellFormed}
-use Rattle.spec_base.specs.Limits.{lastCommand, maxBytes, maxDepth, maxSignals}
+use Rattle.spec_base.specs.Limits.{lastCommand, maxBytes, maxDepth, maxSignals, bytesRow, commandRow, missingRow, operandRow, depthRow, behindRow, twiceRow, unpausedRow, formRow, litresRow}
 use Rattle.spec_sequence.specs.Amounts.{IsAmount}
 use Rattle.spec_sequence.specs.Commands.{Command, deliver, commandOf, operandCount, operandsOf, partCount, inRange, headLength, declares}
 use Rattle.spec_sequence.specs.Reader.{Front, command, bad, front}
@@ -29,20 +29,20 @@ pub data Reached : Type 0 where
 -- ---- rows 3 to 6 and 18 at one command: what is wrong where a statement is awaited and these bytes are left
 pub data Fault : List ℕ → Awaited → (number : ℕ) → Type 0 where
   -- command byte above 0C
-  unknown : {s : Awaited} {b : ℕ} {bs : List ℕ} → lastCommand < b → Fault (b ∷ bs) s 3
+  unknown : {s : Awaited} {b : ℕ} {bs : List ℕ} → lastCommand < b → Fault (b ∷ bs) s commandRow
   -- operand or statement missing at the end
-  no-statement : {s : Awaited} → Fault [] s 4
-  no-operand : {s : Awaited} {b : ℕ} {bs : List ℕ} {c : Command} → commandOf b ≡ some c → length bs < operandCount c → Fault (b ∷ bs) s 4
+  no-statement : {s : Awaited} → Fault [] s missingRow
+  no-operand : {s : Awaited} {b : ℕ} {bs : List ℕ} {c : Command} → commandOf b ≡ some c → length bs < operandCount c → Fault (b ∷ bs) s missingRow
   -- operand outside its range
   out-of-range : {s : Awaited} {b : ℕ} {bs : List ℕ} {c : Command} → commandOf b ≡ some c → operandCount c ≤ length bs
-      → inRange c (operandsOf c (b ∷ bs)) ≡ false → Fault (b ∷ bs) s 5
+      → inRange c (operandsOf c (b ∷ bs)) ≡ false → Fault (b ∷ bs) s operandRow
   -- 02, item 12: 'at its command right after 5, for v not whole, below 0, minus zero or above 16,777,216'
   no-litres : {s : Awaited} {b : ℕ} {bs : List ℕ} → commandOf b ≡ some deliver → operandCount deliver ≤ length bs
-      → inRange deliver (operandsOf deliver (b ∷ bs)) ≡ true → ¬ IsAmount (drop 1 (operandsOf deliver (b ∷ bs))) → Fault (b ∷ bs) s 18
+      → inRange deliver (operandsOf deliver (b ∷ bs)) ≡ true → ¬ IsAmount (drop 1 (operandsOf deliver (b ∷ bs))) → Fault (b ∷ bs) s litresRow
   -- depth over 64, or a seventh signal inside six; the command has passed 3, 4, 5 and 18
-  too-deep : {d g : ℕ} {bs xs : List ℕ} {c : Command} → front bs ≡ command c xs → maxDepth ≤ d → Fault bs (awaits d g) 6
+  too-deep : {d g : ℕ} {bs xs : List ℕ} {c : Command} → front bs ≡ command c xs → maxDepth ≤ d → Fault bs (awaits d g) depthRow
   too-many-signals : {d g : ℕ} {bs xs : List ℕ} {c : Command} → front bs ≡ command c xs → maxSignals < g + declares c
-      → Fault bs (awaits d g) 6
+      → Fault bs (awaits d g) depthRow
 
 -- ---- from one command to the next
 abbrev pub enter : (a d g : ℕ) → List Awaited → Front → Option Reached
@@ -70,23 +70,23 @@ Spells bs p = (bs ≡ bytesOf p) × Within maxDepth maxSignals p × PlacedAt 0 p
 -- of a sequence with a read-back set
 pub data Row (bs : List ℕ) (readBack : ℕ) : (number : ℕ) → Type 0 where
   -- no bytes or over 1,024
-  row-2 : (length bs ≡ 0) ⊎ (maxBytes < length bs) → Row bs readBack 2
+  row-2 : (length bs ≡ 0) ⊎ (maxBytes < length bs) → Row bs readBack bytesRow
   -- rows 3 to 6 and 18 at the first command that is not sound
   row-3-to-6 : (n : ℕ) {a number : ℕ} {s : Awaited} {awaited : List Awaited} → walk n bs ≡ some (at a (s ∷ awaited))
       → Fault (drop a bs) s number → Row bs readBack number
   -- 02, item 5: the bytes begin with a whole statement, and 'the declarations make the nesting of signals exceed six'
   row-6 : {p : Statement} {n : ℕ} → Written maxDepth maxSignals 0 bs p n → maxSignals < signalNesting (program readBack p)
-      → Row bs readBack 6
+      → Row bs readBack depthRow
   -- bytes after the statement
-  row-7 : (n : ℕ) {a : ℕ} → walk n bs ≡ some (at a []) → a < length bs → Row bs readBack 7
+  row-7 : (n : ℕ) {a : ℕ} → walk n bs ≡ some (at a []) → a < length bs → Row bs readBack behindRow
   -- two pauses with one label; a setpause whose label has no pause; not well-formed
-  row-8 : {p : Statement} → Spells bs p → ¬ Distinct p → Row bs readBack 8
-  row-9 : {p : Statement} → Spells bs p → ¬ Targeted p → Row bs readBack 9
-  row-10 : {p : Statement} → Spells bs p → ¬ WellFormed p → Row bs readBack 10
+  row-8 : {p : Statement} → Spells bs p → ¬ Distinct p → Row bs readBack twiceRow
+  row-9 : {p : Statement} → Spells bs p → ¬ Targeted p → Row bs readBack unpausedRow
+  row-10 : {p : Statement} → Spells bs p → ¬ WellFormed p → Row bs readBack formRow
 
 -- The place of a number in the order of the rows: by its size, but 18 right after 5 (02, item 12).
 abbrev pub rank : ℕ → ℕ
-rank n = cond (eqb n 18) 11 (2 * n)
+rank n = cond (eqb n litresRow) 11 (2 * n)
 
 -- A number goes by rows: n is given exactly if row n holds and no row before it does, 0 exactly if none holds.
 pub record ByRows (n : ℕ) (Holds : ℕ → Type 0) : Type 0 where

@@ -5,6 +5,7 @@ use mathlib.Core.Bool.{_&&_, cond}
 use mathlib.Core.List.{List}
 use lib.ListN.{length}
 use lib.Dec.{eqb}
+use Rattle.spec_base.specs.Limits.{lengthRow, malformedRow, overRow}
 use Rattle.spec_language.specs.Statement.{Statement}
 use Rattle.spec_language.specs.Reaction.{Order, inheritanceFirst}
 use Rattle.spec_language.specs.Expansion.{expand}
@@ -29,10 +30,10 @@ pub data Reply : Type 0 where
 
 -- a fresh machine reacts with the whole program p, a waiting one with its expansion
 abbrev pub byState : Order → Statement → Decoded → ℕ → Reply
-byState ord p malformed e = refused 11
+byState ord p malformed e = refused malformedRow
 byState ord p (holds State.fresh) e = reacts (startBy ord p e)
 byState ord p (holds (State.waits L)) e = reacts (startBy ord (expand p L) e)
-byState ord p (holds State.over) e = refused 12
+byState ord p (holds State.over) e = refused overRow
 
 -- the program is the sequence under its read-back declarations (02, item 5); the state is one of the sequence itself
 abbrev pub byCheck : Order → (readBack : ℕ) → Checked → (state : List ℕ) → ℕ → Reply
@@ -57,7 +58,7 @@ unfoldable pub tickBy : Order → (sequence state : List ℕ) (e readBack : ℕ)
 tickBy ord sequence state e readBack answer =
     cond (eqb (length state) stateLength && eqb (length answer) answerLength)
     (replied (replyBy ord sequence state e readBack) state answer)
-    (outcome 1 state answer)
+    (outcome lengthRow state answer)
 
 abbrev pub tickOf : (sequence state : List ℕ) (e readBack : ℕ) (answer : List ℕ) → Outcome
 tickOf = tickBy inheritanceFirst

@@ -4,6 +4,7 @@ use mathlib.Core.Path.{_≡_}
 use mathlib.Core.Logic.{_≢_, _⊎_}
 use mathlib.Core.List.{List}
 use lib.ListN.{length}
+use Rattle.spec_base.specs.Limits.{lengthRow, malformedRow, overRow}
 use Rattle.spec_base.specs.Sets.{none}
 use Rattle.spec_language.specs.Statement.{Statement}
 use Rattle.spec_language.specs.States.{Valid}
@@ -20,8 +21,8 @@ pub data Malformed (p : Statement) (phase labels : ℕ) : Type 0 where
 
 pub data TickRow (sequence : List ℕ) (readBack : ℕ) (state answer : List ℕ) : (number : ℕ) → Type 0 where
   -- state buffer not 17 bytes (02, item 7), or answer buffer not 12 (02, item 6)
-  row-1 : (length state ≢ stateLength) ⊎ (length answer ≢ answerLength) → TickRow sequence readBack state answer 1
+  row-1 : (length state ≢ stateLength) ⊎ (length answer ≢ answerLength) → TickRow sequence readBack state answer lengthRow
   -- every row of the check, 18 too (02, item 12)
   row-2-to-10 : {number : ℕ} → Row sequence readBack number → TickRow sequence readBack state answer number
-  row-11 : {p : Statement} → Spells sequence p → Malformed p (phaseIn state) (labelsIn state) → TickRow sequence readBack state answer 11
-  row-12 : phaseIn state ≡ 2 → TickRow sequence readBack state answer 12
+  row-11 : {p : Statement} → Spells sequence p → Malformed p (phaseIn state) (labelsIn state) → TickRow sequence readBack state answer malformedRow
+  row-12 : phaseIn state ≡ 2 → TickRow sequence readBack state answer overRow

@@ -4,7 +4,7 @@ use mathlib.Core.Bool.{Bool, _&&_, cond}
 use mathlib.Core.List.{List, _++_}
 use lib.ListN.{length, drop}
 use lib.Dec.{eqb, leb}
-use Rattle.spec_base.specs.Limits.{maxBytes, maxDepth}
+use Rattle.spec_base.specs.Limits.{maxBytes, maxDepth, lengthRow, setpauseRow, unrolledRow}
 use Rattle.spec_base.specs.Sets.{empty}
 use Rattle.spec_language.specs.Statement.{Statement}
 use Rattle.spec_language.specs.LabelTests.{setpauses}
@@ -33,11 +33,11 @@ fits p = leb (size (unrolled p)) maxBytes && leb (depthOf (unrolled p)) maxDepth
 
 -- '21 exactly if the result passes 1,024 bytes or depth 64'
 abbrev pub ofPlain : Statement → (buffer : List ℕ) → Unrolling
-ofPlain p buffer = cond (fits p) (written (bytesOf (unrolled p)) buffer) (refused 21 buffer)
+ofPlain p buffer = cond (fits p) (written (bytesOf (unrolled p)) buffer) (refused unrolledRow buffer)
 
 -- '20 if it has a setpause'
 abbrev pub ofStatement : Statement → (buffer : List ℕ) → Unrolling
-ofStatement p buffer = cond (empty (setpauses p)) (ofPlain p buffer) (refused 20 buffer)
+ofStatement p buffer = cond (empty (setpauses p)) (ofPlain p buffer) (refused setpauseRow buffer)
 
 -- 'after the original's own check'
 abbrev pub ofChecked : Checked → (buffer : List ℕ) → Unrolling
@@ -47,4 +47,4 @@ ofChecked (sound p) buffer = ofStatement p buffer
 -- 'number 1 for another buffer length'
 unfoldable pub unrollOf : (sequence : List ℕ) (readBack : ℕ) (buffer : List ℕ) → Unrolling
 unrollOf sequence readBack buffer =
-    cond (eqb (length buffer) maxBytes) (ofChecked (checked sequence readBack) buffer) (refused 1 buffer)
+    cond (eqb (length buffer) maxBytes) (ofChecked (checked sequence readBack) buffer) (refused lengthRow buffer)

@@ -9,7 +9,7 @@ use mathlib.Core.List.{List}
 use lib.ListN.{length}
 use lib.Dec.{eqb, leb}
 use borrow.Author.Tests.{eq-eqb, ne-eqb, leb-true}
-use Rattle.spec_base.specs.Limits.{signalCount}
+use Rattle.spec_base.specs.Limits.{signalCount, maxUnknown}
 use Rattle.spec_base.specs.Sets.{member, difference, Subset, keepIf, membersFrom}
 use Rattle.spec_language.specs.Statement.{Statement}
 use Rattle.spec_language.specs.Reaction.{inheritanceFirst}
@@ -25,7 +25,7 @@ use Rattle.spec_tick.specs.AnswerRecord.{answerLength, encodeAnswer}
 use Rattle.spec_tick.specs.Tick.{Reply, refused, reacts, written, byState, byCheck, replyOf, replied, tickBy, tickOf}
 use Rattle.spec_tick.specs.Demands as demands
 use Rattle.spec_tick.specs.Demands.{answerAfterwards}
-use Rattle.spec_bay.specs.Preview.{Previewed, previewed, number, bufferAfter, findings, previewBytes, previewLength, maxUnknown, shownBy, byReply, answerIn, answersOf, previewOf}
+use Rattle.spec_bay.specs.Preview.{Previewed, previewed, number, bufferAfter, findings, previewBytes, previewLength, shownBy, byReply, answerIn, answersOf, previewOf}
 
 -- ---- fewer inputs are not more
 pub members-fewer : (n i s t : ℕ) → Subset s t → length (membersFrom n i s) ≤ length (membersFrom n i t)

@@ -10,7 +10,7 @@ use lib.ListN.{length}
 use lib.Pow.{pow-mono}
 use lib.Count.{ones}
 use borrow.Author.Tests.{le-leb, lt-leb}
-use Rattle.spec_base.specs.Limits.{signalCount}
+use Rattle.spec_base.specs.Limits.{signalCount, maxUnknown}
 use Rattle.spec_base.specs.Sets.{member, none, common, difference, insert, remove, Subset, Disjoint, membersFrom}
 use Rattle.spec_base.specs.Subsets.{subsetsOf}
 use Rattle.sets.proofs.Algebra.{differences-same}
@@ -24,7 +24,7 @@ use Rattle.spec_tick.specs.Tick.{Outcome, refused, reacts, replyOf, tickOf}
 use Rattle.spec_tick.specs.Demands as demands
 use Rattle.spec_tick.specs.Demands.{answerAfterwards}
 use Rattle.spec_tick.specs.Plain.{SameOutside}
-use Rattle.spec_bay.specs.Preview.{filled, openCode, foundIn, findings, maxUnknown, previewLength, previewBytes, everyIn, neverIn, wrongIn, sharedIn, Previewed, previewed, number, bufferAfter, shownBy, answersOf, previewOf, Learned}
+use Rattle.spec_bay.specs.Preview.{filled, openCode, foundIn, findings, previewLength, previewBytes, everyIn, neverIn, wrongIn, sharedIn, Previewed, previewed, number, bufferAfter, shownBy, answersOf, previewOf, Learned}
 use Rattle.spec_bay.specs.declared.Findings.{Findings}
 use Rattle.spec_bay.specs.PreviewClaims.{EachFilling, PreviewIs, PreviewsAre, GivenOutweighed, knowing, LearningKeeps, PreviewErrors, FillingDemands}
 use Rattle.theory_bay.proofs.Gathering.{learned, learned-one, findings-alike, findings-none, as-filled, within, every-filling, emits, misses, shares}

@@ -10,6 +10,7 @@ use mathlib.Core.List.{List, [], _∷_, map, List·Memᴰ, List·Memᴰ·not-nil
 use lib.ListN.{length}
 use lib.Dec.{eqb}
 use borrow.Author.Tests.{eq-eqb, ne-eqb}
+use Rattle.spec_base.specs.Limits.{bayCount}
 use Rattle.spec_language.specs.Statement.{Statement}
 use Rattle.spec_language.specs.Reaction.{Code, gives, inheritanceFirst}
 use Rattle.spec_language.specs.Rules.{Reacts}
@@ -39,7 +40,7 @@ use Rattle.theory_tick.proofs.Calls.{demand-2-call}
 use Rattle.spec_bay.specs.Called.{Called, called, number, memoryAfter, lentAfter, first}
 use Rattle.spec_bay.specs.Stretch.{positionsAt, stretchLength, isEmpty, stateIn, Terms}
 use Rattle.spec_bay.specs.BayCalls.{delivering, bayTickOf, bayAdmitOf}
-use Rattle.spec_box.specs.Box.{bayCount, boxLength, stretchOf, present, Call, admit, release, tick, save, restore, forget, service, panel, preview, ledger, newYear, onTick, callOf}
+use Rattle.spec_box.specs.Box.{boxLength, stretchOf, present, Call, admit, release, tick, save, restore, forget, service, panel, preview, ledger, newYear, onTick, callOf}
 use Rattle.spec_box.specs.Lists.{Request, afterCall, boxAfter, callsTo}
 use Rattle.spec_box.specs.Shares.{Sendable}
 use Rattle.spec_box.specs.BayRuns.{paperBuffer, ticksTo, outcomeOf, tickOutcomes, tickLitres, instantsIn, inputsIn, Onward, Onwards, done, more, RunOf, RewritesAs, Rewrites}

@@ -9,7 +9,7 @@ use mathlib.Core.List.{List, []}
 use lib.ListN.{length}
 use lib.Dec.{eqb, leb}
 use borrow.Author.Tests.{ne-eqb, leb-true}
-use Rattle.spec_base.specs.Limits.{maxBytes}
+use Rattle.spec_base.specs.Limits.{maxBytes, sharedCeiling}
 use Rattle.spec_sequence.specs.Check.{Checked, sound, bad, checked, checkOf}
 use Rattle.spec_sequence.specs.Ceilings.{ceilingOf}
 use Rattle.spec_sequence.specs.Rows.{row-2}
@@ -17,7 +17,7 @@ use Rattle.theory_sequence.proofs.Rows.{Decides, decided, row-range}
 use Rattle.theory_tick.proofs.Sequence.{Accepted, accepted}
 use Rattle.spec_bay.specs.Called.{Called, called, number, memoryAfter}
 use Rattle.spec_bay.specs.Stretch.{stretchLength, Terms, filled}
-use Rattle.spec_bay.specs.BayCalls.{sharedCeiling, bayReleaseOf, bayAdmitOf}
+use Rattle.spec_bay.specs.BayCalls.{bayReleaseOf, bayAdmitOf}
 use Rattle.spec_box.specs.Box.{Call, admit, release, tick, save, restore, forget, service, panel, preview, ledger, newYear, buffers, bayCall, isFor}
 use Rattle.theory_bay.proofs.Fields.{length-vacated, length-filled}
 use Rattle.theory_box.proofs.Ticks.{tick-refused, tick-keeps-length}

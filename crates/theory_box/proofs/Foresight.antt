@@ -7,6 +7,7 @@ use mathlib.Core.Bool.{not, cond}
 use mathlib.Core.List.{List, [], _∷_}
 use lib.ListN.{length}
 use lib.Dec.{eqb, ltb}
+use Rattle.spec_base.specs.Limits.{bayCount}
 use Rattle.spec_base.specs.Sets.{remove}
 use Rattle.spec_tick.specs.AnswerRecord.{answerLength, codeIn}
 use Rattle.spec_tick.specs.Record.{recordLength}
@@ -22,7 +23,7 @@ use Rattle.theory_bay.proofs.Theorems as previews
 use Rattle.spec_bay.specs.Called.{Called, called, number, memoryAfter, lentAfter, first}
 use Rattle.spec_bay.specs.Stretch.{stretchLength, isEmpty, sequenceIn, readBackIn, stateIn}
 use Rattle.spec_bay.specs.BayCalls.{stretchKept, bayPreviewOf}
-use Rattle.spec_box.specs.Box.{bayCount, boxLength, stretchOf, tick, preview, inBox, callOf}
+use Rattle.spec_box.specs.Box.{boxLength, stretchOf, tick, preview, inBox, callOf}
 use Rattle.spec_box.specs.Previews.{MachineStays, TenBytes, StatusOutweighed, LearningStays, Foreseen, PreviewForesees, PreviewsTicks, PreviewedTicks, NeverOpen, PreviewDemands}
 use Rattle.theory_bay.proofs.Fields.{state-sized}
 use Rattle.theory_box.proofs.Ticks.{tick-number, like-buffer}

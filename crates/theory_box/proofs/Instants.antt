@@ -10,7 +10,7 @@ use mathlib.Core.List.{List, [], _∷_}
 use lib.ListN.{length, getElem?}
 use lib.Dec.{eqb}
 use borrow.Author.Tests.{eq-eqb, ne-eqb}
-use Rattle.spec_base.specs.Limits.{numberBytes, lastNumber}
+use Rattle.spec_base.specs.Limits.{numberBytes, lastNumber, bayCount}
 use Rattle.spec_language.specs.Machines.{State}
 use Rattle.spec_base.specs.Bytes.{leBytes, leNumber}
 use Rattle.numbers.proofs.Bytes.{length-leBytes, le-round-trip}
@@ -33,7 +33,7 @@ use Rattle.spec_bay.specs.Stretch.{sequenceAt, stateAt, countAt, positionsAt, b
 use Rattle.spec_bay.specs.BayCalls.{delivering, bayTickOf, bayAdmitOf, bayRestoreOf}
 use Rattle.spec_box.specs.BayRuns.{inputsIn, Stays, NotTakenOut, Onward, Onwards, termsIn}
 use Rattle.spec_box.specs.BayRuns as Runs
-use Rattle.spec_box.specs.Box.{bayCount, boxLength, stretchOf, present, Call, admit, release, tick, save, restore, forget, service, panel, preview, ledger, newYear, bayCall, callOf}
+use Rattle.spec_box.specs.Box.{boxLength, stretchOf, present, Call, admit, release, tick, save, restore, forget, service, panel, preview, ledger, newYear, bayCall, callOf}
 use Rattle.spec_box.specs.Lists.{Request, afterCall, boxAfter, callsTo}
 use Rattle.spec_box.specs.Instants.{second, recordsIn, RecordIs, ServiceShows, PanelShows, PanelsAlike, ReaderNumbers, RecordLength}
 use Rattle.spec_box.specs.Shares.{Sendable}

@@ -10,7 +10,7 @@ use mathlib.Core.List.{List, [], _∷_}
 use lib.ListN.{length}
 use lib.Dec.{eqb, leb}
 use borrow.Author.Tests.{eq-eqb, ne-eqb}
-use Rattle.spec_base.specs.Limits.{signalCount, numberBytes}
+use Rattle.spec_base.specs.Limits.{signalCount, numberBytes, bayCount, maxUnknown}
 use Rattle.spec_base.specs.Bytes.{leBytes}
 use Rattle.spec_base.specs.Sets.{difference, membersFrom}
 use Rattle.spec_tick.specs.StateRecord.{stateLength}
@@ -23,13 +23,13 @@ use Rattle.spec_tick.specs.Tick.{Outcome, outcome, Reply, refused, reacts, repl
 use Rattle.spec_tick.specs.Demands as demands
 use Rattle.spec_tick.specs.Demands.{stateAfterwards}
 use Rattle.spec_bay.specs.Preview as fillings
-use Rattle.spec_bay.specs.Preview.{Previewed, previewed, byReply, answersOf, maxUnknown, previewLength, previewBytes, findings, previewOf}
+use Rattle.spec_bay.specs.Preview.{Previewed, previewed, byReply, answersOf, previewLength, previewBytes, findings, previewOf}
 use Rattle.theory_bay.proofs.Numbers as numbers
 use Rattle.spec_bay.specs.Ledgers.{readingLength, passes, added, readingOf}
 use Rattle.spec_bay.specs.Called.{Called, called, number, memoryAfter, lentAfter}
 use Rattle.spec_bay.specs.Stretch.{stateAt, countAt, sequenceIn, readBackIn, serviceOnlyIn, stateIn, lastNumberIn, ledgerIn, withLedger}
 use Rattle.spec_bay.specs.BayCalls.{delivering, byOutcome, bayTickOf, bayServiceOf, bayPanelOf, stretchKept, bayPreviewOf, bayLedgerOf}
-use Rattle.spec_box.specs.Box.{bayCount, boxLength, stretchOf, present, Call, admit, release, tick, save, restore, forget, service, panel, preview, ledger, newYear, isFor, callOf}
+use Rattle.spec_box.specs.Box.{boxLength, stretchOf, present, Call, admit, release, tick, save, restore, forget, service, panel, preview, ledger, newYear, isFor, callOf}
 use Rattle.spec_box.specs.Lists.{Request, afterCall, boxAfter, blanked, Asked, admission, other, askedBy, asked, Answer, answered, answerOf, answers, callsTo}
 use Rattle.spec_box.specs.Claims.{SumAlike}
 use Rattle.theory_box.proofs.Bays.{onStretch, admittedAs, admission-by-number}

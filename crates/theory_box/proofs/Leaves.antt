@@ -4,7 +4,7 @@ use native.Mathlib.Omega.{arith}
 use mathlib.Core.Path.{_≡_, refl, sym, ap, _∙_, subst}
 use mathlib.Core.List.{List}
 use lib.ListN.{length}
-use Rattle.spec_base.specs.Limits.{numberBytes}
+use Rattle.spec_base.specs.Limits.{numberBytes, bayCount}
 use Rattle.spec_base.specs.Bytes.{leNumber}
 use Rattle.theory_tick.proofs.Sequence.{accepted}
 use Rattle.numbers.proofs.Zeros.{zeros-number}
@@ -13,7 +13,7 @@ use Rattle.spec_bay.specs.Stretch.{countAt, bayLength, stretchLength, sequenceI
 use Rattle.spec_bay.specs.Table.{lookup}
 use Rattle.spec_bay.specs.Ledgers.{ledgerLength}
 use Rattle.spec_bay.specs.BayCalls.{bayReleaseOf, bayAdmitOf}
-use Rattle.spec_box.specs.Box.{bayCount, stretchOf, present, admit, release, callOf}
+use Rattle.spec_box.specs.Box.{stretchOf, present, admit, release, callOf}
 use Rattle.spec_box.specs.Leaves.{FreshlyFilled, AdmissionLeaves, TakenOut, ReleaseLeaves}
 use Rattle.theory_bay.proofs.Fields.{vacated-empty, slot-vacated, vacated-behind, filled-zeros, filled-behind}
 use Rattle.theory_box.proofs.Bays.{ceilingFor, bounds, Admission, turned-down, admits, admission}

@@ -9,6 +9,7 @@ use mathlib.Core.Option.{some, none}
 use mathlib.Core.List.{List, [], _∷_}
 use lib.ListN.{length}
 use borrow.Author.Tests.{eq-eqb, ne-eqb}
+use Rattle.spec_base.specs.Limits.{bayCount}
 use Rattle.spec_language.specs.Statement.{Statement}
 use Rattle.spec_language.specs.States.{Valid}
 use Rattle.spec_language.specs.Machines.{State}
@@ -22,7 +23,7 @@ use Rattle.box_positions.proofs.Theorems as table
 use Rattle.box_positions.proofs.Theorems.{cleared-agrees, save-agrees, forget-agrees, lookup-zeros}
 use Rattle.spec_bay.specs.Called.{called, number, memoryAfter}
 use Rattle.spec_bay.specs.Stretch.{stateAt, lengthIn, isEmpty, sequenceIn, stateIn, positionsIn, Terms}
-use Rattle.spec_box.specs.Box.{bayCount, boxLength, emptyBox, stretchOf, present, Call, admit, release, tick, save, restore, forget, service, panel, preview, ledger, newYear, buffers, bayCall, isFor, callOf}
+use Rattle.spec_box.specs.Box.{boxLength, emptyBox, stretchOf, present, Call, admit, release, tick, save, restore, forget, service, panel, preview, ledger, newYear, buffers, bayCall, isFor, callOf}
 use Rattle.spec_box.specs.Lists.{Request, afterCall, boxAfter, CallIn, callsTo, inTurn}
 use Rattle.spec_box.specs.Shares.{Sendable, AllSendable, none, each}
 use Rattle.spec_box.specs.Positions.{changedBy, savedIn, NoneKnown}

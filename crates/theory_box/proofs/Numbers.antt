@@ -9,13 +9,14 @@ use mathlib.Core.List.{List, []}
 use lib.ListN.{length}
 use lib.Dec.{leb}
 use borrow.Author.Tests.{eq-eqb, ne-eqb, eqb-true, eqb-false, not-false, le-leb, lt-leb, leb-true, leb-false}
+use Rattle.spec_base.specs.Limits.{sharedCeiling, bayCount}
 use Rattle.spec_sequence.specs.Check.{Checked, sound, bad, checked, numberOf, checkOf}
 use Rattle.theory_sequence.proofs.Rows.{check-by-rows, row-rank}
 use Rattle.theory_tick.proofs.Sequence.{accepted}
 use Rattle.spec_bay.specs.Called.{called, number}
 use Rattle.spec_bay.specs.Stretch.{stretchLength, lengthIn, isEmpty, sequenceIn, readBackIn, stateIn, Terms, filled}
-use Rattle.spec_bay.specs.BayCalls.{sharedCeiling, byCheck, bayReleaseOf, bayAdmitOf}
-use Rattle.spec_box.specs.Box.{bayCount, boxLength, stretchOf, present, Call, admit, release, tick, save, restore, forget, service, panel, preview, ledger, newYear, buffers, bayCall, isFor, callOf}
+use Rattle.spec_bay.specs.BayCalls.{byCheck, bayReleaseOf, bayAdmitOf}
+use Rattle.spec_box.specs.Box.{boxLength, stretchOf, present, Call, admit, release, tick, save, restore, forget, service, panel, preview, ledger, newYear, buffers, bayCall, isFor, callOf}
 use Rattle.spec_box.specs.BayRuns.{paperBuffer}
 use Rattle.spec_box.specs.Claims.{NotThere, Thirteen, NoBox}
 use Rattle.theory_box.proofs.Moves.{moved-not-13, save-moved, forget-moved, restore-moved, year-moved}

@@ -9,7 +9,7 @@ use lib.ListN.{length}
 use lib.Dec.{eqb, leb}
 use lib.IntN.{pos}
 use lib.Ieee.{Float, binary32, add, toBits, ofInt}
-use Rattle.spec_base.specs.Limits.{numberBytes}
+use Rattle.spec_base.specs.Limits.{numberBytes, farmCount, sharedCeiling}
 use Rattle.spec_language.specs.Statement.{Statement}
 use Rattle.spec_language.specs.Ceiling.{ceiling}
 use Rattle.spec_language.specs.Machines.{State}
@@ -28,11 +28,11 @@ use Rattle.spec_bay.specs.Table.{tableLength}
 use Rattle.box_positions.specs.Places.{Agrees}
 use Rattle.box_positions.proofs.Theorems.{cleared-agrees}
 use Rattle.spec_bay.specs.Ledgers as Ledgers
-use Rattle.spec_bay.specs.Ledgers.{farmCount, ledgerLength, readingLength, totalIn, totalsBytes, readingFor, readingOf}
+use Rattle.spec_bay.specs.Ledgers.{ledgerLength, readingLength, totalIn, totalsBytes, readingFor, readingOf}
 use Rattle.box_ledgers.proofs.Theorems.{cleared-sized}
 use Rattle.spec_bay.specs.Called.{Called, called, number, memoryAfter}
 use Rattle.spec_bay.specs.Stretch.{lengthBytes, countAt, positionsAt, bayLength, stretchLength, lengthIn, ledgerIn, Terms, filled}
-use Rattle.spec_bay.specs.BayCalls.{sharedCeiling, bayAdmitOf, bayLedgerOf, bayNewYearOf}
+use Rattle.spec_bay.specs.BayCalls.{bayAdmitOf, bayLedgerOf, bayNewYearOf}
 use Rattle.spec_box.specs.Box.{admit, ledger, newYear}
 use Rattle.spec_box.specs.Shares.{Sendable}
 use Rattle.theory_bay.proofs.Fields.{filled-zeros}

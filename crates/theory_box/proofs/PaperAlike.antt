@@ -8,14 +8,14 @@ use mathlib.Core.Option.{some, none}
 use mathlib.Core.List.{List}
 use lib.ListN.{length}
 use borrow.Author.Tests.{ne-eqb}
-use Rattle.spec_base.specs.Limits.{lastNumber}
+use Rattle.spec_base.specs.Limits.{lastNumber, farmCount}
 use Rattle.spec_language.specs.Machines.{State}
 use Rattle.spec_sequence.specs.Program.{program}
 use Rattle.spec_tick.specs.StateRecord.{encodeState, Recorded}
 use Rattle.theory_tick.proofs.Sequence.{Accepted}
 use Rattle.spec_bay.specs.Names.{Position}
 use Rattle.box_positions.specs.Places.{Agrees}
-use Rattle.spec_bay.specs.Ledgers.{farmCount, totalIn}
+use Rattle.spec_bay.specs.Ledgers.{totalIn}
 use Rattle.spec_bay.specs.Called.{Called, called, number, memoryAfter, first}
 use Rattle.spec_bay.specs.Stretch.{stretchLength, lengthIn, stateIn, lastNumberIn, positionsIn, ledgerIn, Terms}
 use Rattle.spec_box.specs.Box.{Call, bayCall}

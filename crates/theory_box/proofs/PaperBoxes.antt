@@ -9,6 +9,7 @@ use mathlib.Core.Option as Option
 use mathlib.Core.List.{List, [], _∷_, List·Memᴰ, List·Memᴰ·head, List·Memᴰ·tail}
 use lib.ListN.{length}
 use borrow.Author.Tests.{eq-eqb, ne-eqb, lt-ltb, le-ltb}
+use Rattle.spec_base.specs.Limits.{farmCount, bayCount}
 use Rattle.spec_language.specs.Ceiling.{ceiling}
 use Rattle.spec_language.specs.States.{NoSetpause}
 use Rattle.spec_language.specs.Machines.{State}
@@ -20,11 +21,11 @@ use Rattle.spec_sequence.specs.Ceilings.{ceilingOf}
 use Rattle.spec_base.specs.Bytes.{leNumber}
 use Rattle.spec_base.specs.Parts.{zeros}
 use Rattle.numbers.proofs.Zeros.{length-zeros, slot-zeros, zeros-number}
-use Rattle.spec_bay.specs.Ledgers.{farmCount, totalIn}
+use Rattle.spec_bay.specs.Ledgers.{totalIn}
 use Rattle.box_ledgers.proofs.Theorems.{cleared-total}
 use Rattle.spec_bay.specs.Called.{Called, memoryAfter}
 use Rattle.spec_bay.specs.Stretch.{stretchLength, lengthIn, isEmpty, sequenceIn, readBackIn, serviceOnlyIn, stateIn, ledgerIn, partOf, Terms}
-use Rattle.spec_box.specs.Box.{bayCount, boxLength, emptyBox, stretchOf, present, Call, admit, release, tick, save, restore, forget, service, panel, preview, ledger, newYear, buffers, isFor, callOf}
+use Rattle.spec_box.specs.Box.{boxLength, emptyBox, stretchOf, present, Call, admit, release, tick, save, restore, forget, service, panel, preview, ledger, newYear, buffers, isFor, callOf}
 use Rattle.spec_box.specs.Lists.{Request, afterCall, boxAfter}
 use Rattle.spec_box.specs.Shares.{Sendable, AllSendable, none, each}
 use Rattle.theory_box.proofs.Bays.{onStretch}

@@ -9,16 +9,16 @@ use lib.Ieee.{Float, nan, inf, fin, binary32, up, down, toBits}
 use lib.Ieee.Exact.{HasValue}
 use lib.Ieee.Fits.{down-pos}
 use Rattle.spec_base.specs.Bytes.{leBytes}
-use Rattle.spec_base.specs.Limits.{litresLimit}
+use Rattle.spec_base.specs.Limits.{litresLimit, farmCount, bayCount}
 use Rattle.spec_base.specs.WholeLitres.{IsNumber, Near}
 use Rattle.litres.proofs.Sums.{is-number, value-of}
 use Rattle.spec_sequence.specs.Amounts.{amountSize}
-use Rattle.spec_bay.specs.Ledgers.{farmCount, fieldIn, totalIn, exactTotal, shownTotal, readingOf, totalRead}
+use Rattle.spec_bay.specs.Ledgers.{fieldIn, totalIn, exactTotal, shownTotal, readingOf, totalRead}
 use Rattle.box_ledgers.proofs.Totals.{holds}
 use Rattle.box_ledgers.proofs.Theorems.{written, total-most, reading-within}
 use Rattle.spec_bay.specs.Called.{Called, number, lentAfter, first}
 use Rattle.spec_bay.specs.Stretch.{ledgerIn}
-use Rattle.spec_box.specs.Box.{bayCount, emptyBox, stretchOf, ledger, callOf}
+use Rattle.spec_box.specs.Box.{emptyBox, stretchOf, ledger, callOf}
 use Rattle.spec_box.specs.Lists.{Request, boxAfter}
 use Rattle.spec_box.specs.Years.{sumOf}
 use Rattle.theory_box.proofs.Stretches.{answered-inside}

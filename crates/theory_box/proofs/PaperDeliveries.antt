@@ -9,6 +9,7 @@ use mathlib.Core.List.{List, [], _∷_}
 use lib.ListN.{length}
 use lib.Dec.{eqb, leb, ltb}
 use borrow.Author.Tests.{eq-eqb, ne-eqb, lt-ltb}
+use Rattle.spec_base.specs.Limits.{farmCount, sharedCeiling, bayCount}
 use Rattle.spec_language.specs.Statement.{Statement}
 use Rattle.spec_language.specs.Ceiling.{ceiling}
 use Rattle.spec_language.specs.Machines.{Seen, instant, refused}
@@ -19,10 +20,9 @@ use Rattle.spec_tick.specs.Record.{recordLength, panelLength, panelOf}
 use Rattle.spec_tick.specs.Recording.{following}
 use Rattle.spec_bay.specs.Names.{find, Answered, answered, saveNamed, forgetNamed}
 use Rattle.spec_bay.specs.Preview.{Previewed, previewed, previewLength, shownBy}
-use Rattle.spec_bay.specs.Ledgers.{farmCount, readingLength, readingFor, wouldPass}
+use Rattle.spec_bay.specs.Ledgers.{readingLength, readingFor, wouldPass}
 use Rattle.spec_bay.specs.Stretch.{Terms}
-use Rattle.spec_bay.specs.BayCalls.{sharedCeiling}
-use Rattle.spec_box.specs.Box.{bayCount, Call, admit, release, tick, save, restore, forget, service, panel, preview, ledger, newYear, buffers}
+use Rattle.spec_box.specs.Box.{Call, admit, release, tick, save, restore, forget, service, panel, preview, ledger, newYear, buffers}
 use Rattle.spec_box.specs.Lists.{Request, callsTo}
 use Rattle.spec_box.specs.Years.{sumOf}
 use Rattle.spec_box.specs.PaperBox.{BayMachine, PaperBay, PaperPlace, PaperBox, PaperReply, Reported, ticked, replies, down, holds, shows, withMachine, presentOn, programOf, freshBay, admitOn, addsOn, tickOn, renamedOn, saveOn, restoreOn, previewedOn, previewOn, sized, placeCall, withPlace, paperCall, answerSeen}

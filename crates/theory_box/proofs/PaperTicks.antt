@@ -9,7 +9,7 @@ use mathlib.Core.List.{List, [], _∷_}
 use lib.ListN.{length}
 use lib.Dec.{eqb, ltb}
 use borrow.Author.Tests.{eq-eqb, ne-eqb}
-use Rattle.spec_base.specs.Limits.{numberBytes, litresLimit}
+use Rattle.spec_base.specs.Limits.{numberBytes, litresLimit, farmCount}
 use native.Mathlib.Decide.{ℕ-discrete}
 use Rattle.spec_language.specs.Reaction.{Code}
 use Rattle.spec_language.specs.Errors.{Error}
@@ -24,7 +24,7 @@ use Rattle.spec_tick.specs.Recording.{following}
 use Rattle.records.proofs.Theorems.{following-is}
 use Rattle.numbers.proofs.Putting.{slot-put}
 use Rattle.box_positions.specs.Places.{Agrees}
-use Rattle.spec_bay.specs.Ledgers.{farmCount, wouldPass, passes}
+use Rattle.spec_bay.specs.Ledgers.{wouldPass, passes}
 use Rattle.spec_tick.specs.Tick.{Outcome, outcome, tickOf}
 use Rattle.spec_tick.specs.Demands as demands
 use Rattle.spec_tick.specs.Demands.{stateAfterwards, answerAfterwards}

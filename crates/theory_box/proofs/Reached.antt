@@ -9,6 +9,7 @@ use mathlib.Core.Bool.{Bool, true, false, cond, true≢false}
 use mathlib.Core.List.{List, [], _∷_}
 use lib.ListN.{length}
 use borrow.Author.Tests.{eq-eqb, ne-eqb}
+use Rattle.spec_base.specs.Limits.{sharedCeiling, bayCount}
 use Rattle.spec_base.specs.Bytes.{leNumber}
 use Rattle.spec_sequence.specs.Check.{checkOf}
 use Rattle.spec_base.specs.Parts.{slot, zeros}
@@ -22,8 +23,8 @@ use Rattle.spec_tick.specs.Demands as demands
 use Rattle.theory_tick.proofs.Sequence.{accepted}
 use Rattle.spec_bay.specs.Called.{called, number, memoryAfter}
 use Rattle.spec_bay.specs.Stretch.{lengthBytes, positionsAt, bayLength, stretchLength, lengthIn, sequenceIn, readBackIn, ceilingIn, positionsIn, partOf, vacated, withLedger, Terms, filled}
-use Rattle.spec_bay.specs.BayCalls.{sharedCeiling, bayReleaseOf, bayAdmitOf, bayNewYearOf}
-use Rattle.spec_box.specs.Box.{bayCount, boxLength, emptyBox, stretchOf, present, Call, admit, release, tick, save, restore, forget, service, panel, preview, ledger, newYear, buffers, bayCall, isFor, callOf}
+use Rattle.spec_bay.specs.BayCalls.{bayReleaseOf, bayAdmitOf, bayNewYearOf}
+use Rattle.spec_box.specs.Box.{boxLength, emptyBox, stretchOf, present, Call, admit, release, tick, save, restore, forget, service, panel, preview, ledger, newYear, buffers, bayCall, isFor, callOf}
 use Rattle.spec_box.specs.Lists.{Request, boxAfter}
 use Rattle.spec_box.specs.Shares.{Sendable, AllSendable, none, each}
 use Rattle.spec_box.specs.Claims.{ceilingHeld}

@@ -3,6 +3,7 @@ use Prim.Native.Nat.{ℕ, _<_}
 use mathlib.Core.Path.{_≡_, refl, sym, ap, ap₂, _∙_, subst}
 use mathlib.Core.Option.{some}
 use mathlib.Core.List.{List}
+use Rattle.spec_base.specs.Limits.{bayCount}
 use Rattle.spec_language.specs.Statement.{Statement}
 use Rattle.spec_language.specs.States.{NoSetpause}
 use Rattle.spec_language.specs.Expansion.{expand}
@@ -15,7 +16,7 @@ use Rattle.theory_tick.proofs.Sequence.{same-statement}
 use Rattle.spec_bay.specs.Table.{lookup}
 use Rattle.spec_bay.specs.Called.{number, memoryAfter}
 use Rattle.spec_bay.specs.Stretch.{sequenceIn, readBackIn, stateIn, positionsIn, Terms, terms}
-use Rattle.spec_box.specs.Box.{bayCount, emptyBox, stretchOf, admit, restore, callOf}
+use Rattle.spec_box.specs.Box.{emptyBox, stretchOf, admit, restore, callOf}
 use Rattle.spec_box.specs.Lists.{Request, boxAfter}
 use Rattle.spec_box.specs.BayRuns.{Onwards, termsIn, RunOf, Rewrites}
 use Rattle.spec_box.specs.Positions.{TicksFromPosition}

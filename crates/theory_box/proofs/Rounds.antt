@@ -9,6 +9,7 @@ use mathlib.Core.List.{List, [], _∷_}
 use lib.ListN.{length}
 use lib.Dec.{eqb}
 use borrow.Author.Tests.{eq-eqb, ne-eqb, eqb-true}
+use Rattle.spec_base.specs.Limits.{sharedCeiling, bayCount}
 use Rattle.spec_sequence.specs.Check.{checked}
 use Rattle.spec_sequence.specs.Ceilings.{ceilingOf}
 use Rattle.spec_tick.specs.AnswerRecord.{reactionsIn}
@@ -18,9 +19,9 @@ use Rattle.spec_tick.specs.Demands.{answerAfterwards}
 use Rattle.theory_tick.proofs.Ceiling.{never-above}
 use Rattle.spec_bay.specs.Called.{called, memoryAfter}
 use Rattle.spec_bay.specs.Stretch.{stretchLength, stateIn, partOf}
-use Rattle.spec_bay.specs.BayCalls.{sharedCeiling, bayTickOf}
+use Rattle.spec_bay.specs.BayCalls.{bayTickOf}
 use Rattle.spec_box.specs.BayRuns.{paperBuffer}
-use Rattle.spec_box.specs.Box.{bayCount, stretchOf, present, tick, bayCall, isFor, callOf}
+use Rattle.spec_box.specs.Box.{stretchOf, present, tick, bayCall, isFor, callOf}
 use Rattle.spec_box.specs.Lists.{Request}
 use Rattle.spec_box.specs.Shares.{reactionsOf, sumOfReactions, without, Round, done, more, OneTickEach}
 use Rattle.theory_box.proofs.Sums.{sumOf, same-sum, one-changed}

@@ -9,11 +9,12 @@ use mathlib.Core.List.{List, []}
 use lib.ListN.{length, drop, length-drop}
 use lib.Seq.{length-take-le}
 use borrow.Author.Tests.{lt-ltb, le-ltb, eq-eqb, ne-eqb}
+use Rattle.spec_base.specs.Limits.{bayCount}
 use Rattle.spec_base.specs.Parts.{put}
 use Rattle.numbers.proofs.Putting.{put-slot, length-put, slot-put, put-before, put-behind}
 use Rattle.spec_bay.specs.Called.{Called, called, number, memoryAfter, lentAfter}
 use Rattle.spec_bay.specs.Stretch.{stretchLength, isEmpty, Terms}
-use Rattle.spec_box.specs.Box.{bayCount, boxLength, stretchOf, present, Call, admit, buffers, bayCall, isFor, inBox, callOf}
+use Rattle.spec_box.specs.Box.{boxLength, stretchOf, present, Call, admit, buffers, bayCall, isFor, inBox, callOf}
 use Rattle.theory_box.proofs.Bays.{onStretch, stretch-refused, sized-after}
 
 in-box : (bay : ℕ) (box : List ℕ) (o : Called)

@@ -6,6 +6,7 @@ use mathlib.Core.Logic.{_≢_}
 use mathlib.Core.Option.{some}
 use mathlib.Core.List.{List, [], _∷_, map, List·Memᴰ}
 use lib.ListN.{length}
+use Rattle.spec_base.specs.Limits.{farmCount, bayCount}
 use Rattle.spec_language.specs.Statement.{Statement}
 use Rattle.spec_language.specs.Reaction.{Code, gives}
 use Rattle.spec_language.specs.Rules.{Reacts}
@@ -26,10 +27,10 @@ use Rattle.spec_replay.specs.Replay.{replayed, replayOf}
 use Rattle.theory_replay.proofs.Theorems.{accepts-recordings}
 use Rattle.spec_bay.specs.Names.{find}
 use Rattle.spec_bay.specs.Table.{lookup}
-use Rattle.spec_bay.specs.Ledgers.{farmCount, readingLength, totalIn}
+use Rattle.spec_bay.specs.Ledgers.{readingLength, totalIn}
 use Rattle.spec_bay.specs.Called.{called, number, memoryAfter}
 use Rattle.spec_bay.specs.Stretch.{stateIn, positionsIn, ledgerIn, Terms}
-use Rattle.spec_box.specs.Box.{bayCount, boxLength, emptyBox, stretchOf, admit, release, tick, restore, forget, service, panel, ledger, callOf}
+use Rattle.spec_box.specs.Box.{boxLength, emptyBox, stretchOf, admit, release, tick, restore, forget, service, panel, ledger, callOf}
 use Rattle.spec_box.specs.Lists.{Request, boxAfter, asked, answers}
 use Rattle.spec_box.specs.Shares.{Sendable, AllSendable}
 use Rattle.spec_box.specs.BayRuns.{paperBuffer, ticksTo, outcomeOf, tickOutcomes, tickLitres, instantsIn, inputsIn, Onwards, termsIn, TermsFixed, Rewrites, TicksInBay}

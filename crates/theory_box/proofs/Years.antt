@@ -11,7 +11,7 @@ use mathlib.Core.List.{List, [], _∷_}
 use lib.ListN.{length}
 use lib.Dec.{eqb, ltb}
 use borrow.Author.Tests.{eq-eqb, ne-eqb, ltb-true}
-use Rattle.spec_base.specs.Limits.{numberBytes, litresLimit}
+use Rattle.spec_base.specs.Limits.{numberBytes, litresLimit, farmCount, bayCount}
 use Rattle.spec_base.specs.Bytes.{leBytes}
 use Rattle.numbers.proofs.Bytes.{length-leBytes}
 use Rattle.spec_tick.specs.StateRecord.{stateLength, stateRecord, phaseIn, labelsIn}
@@ -22,7 +22,7 @@ use Rattle.numbers.proofs.Zeros.{slot-zeros}
 use Rattle.spec_bay.specs.Table.{tableLength, lookup, Kept, kept, tableKept, saveOf, forgetOf}
 use Rattle.box_positions.proofs.TableLaws.{save-sized, forget-sized}
 use Rattle.spec_base.specs.WholeLitres.{Near}
-use Rattle.spec_bay.specs.Ledgers.{farmCount, ledgerLength, exactTotal, readingOf, totalRead, totalIn, Exact, cleared, wouldPass, passes, added}
+use Rattle.spec_bay.specs.Ledgers.{ledgerLength, exactTotal, readingOf, totalRead, totalIn, Exact, cleared, wouldPass, passes, added}
 use Rattle.box_ledgers.proofs.Totals.{passes-not}
 use Rattle.box_ledgers.proofs.Theorems.{added-total, added-stays-exact, total-most, reading-total, reading-within, cleared-total, cleared-exact, cleared-sized, cleared-is}
 use Rattle.spec_tick.specs.Demands as demands
@@ -30,7 +30,7 @@ use Rattle.theory_tick.proofs.Sequence.{accepted}
 use Rattle.spec_bay.specs.Called.{Called, called, number, memoryAfter}
 use Rattle.spec_bay.specs.Stretch.{stateAt, countAt, positionsAt, bayLength, stretchLength, lengthIn, stateIn, positionsIn, ledgerIn}
 use Rattle.spec_bay.specs.BayCalls.{positionsKept, restored, delivering, bayTickOf, bayReleaseOf, bayAdmitOf, baySaveOf, bayForgetOf, bayRestoreOf, bayNewYearOf}
-use Rattle.spec_box.specs.Box.{bayCount, boxLength, emptyBox, stretchOf, present, Call, admit, release, tick, save, restore, forget, service, panel, preview, ledger, newYear, onTick, onNewYear, bayCall, isFor, callOf}
+use Rattle.spec_box.specs.Box.{boxLength, emptyBox, stretchOf, present, Call, admit, release, tick, save, restore, forget, service, panel, preview, ledger, newYear, onTick, onNewYear, bayCall, isFor, callOf}
 use Rattle.spec_box.specs.Lists.{Request, afterCall, boxAfter, callsTo}
 use Rattle.spec_box.specs.BayRuns.{tickLitres}
 use Rattle.spec_box.specs.Years.{deliveredAfter, deliveredSince, SameYear, done, more, sumOf, TotalsExact, LedgerShows, YearBegins, LedgerNumbers, ownNumber, WouldPass, Nineteen, PreviewsNeverNineteen}

@@ -3,13 +3,14 @@ use Prim.Native.Nat.{ℕ, zero, suc, _+_, _%_}
 use mathlib.Core.Bool.{cond}
 use mathlib.Core.List.{List, [], _∷_}
 use lib.Dec.{eqb}
+use Rattle.spec_base.specs.Limits.{bayCount}
 use Rattle.spec_tick.specs.StateRecord.{stateLength}
 use Rattle.spec_base.specs.Parts.{put, zeros}
 use Rattle.spec_tick.specs.Tick.{tickOf}
 use Rattle.spec_bay.specs.Called.{Called, called, number, memoryAfter}
 use Rattle.spec_bay.specs.Stretch.{lengthBytes, stateAt, sequenceIn, readBackIn, ceilingIn, stateIn}
 use Rattle.spec_bay.specs.BayCalls.{delivering, byOutcome, bayAdmitOf}
-use Rattle.spec_box.specs.Box.{bayCount, stretchOf, present, Call, onAdmit, onRelease, onTick, onSave, onRestore, inBox, callOf}
+use Rattle.spec_box.specs.Box.{stretchOf, present, Call, onAdmit, onRelease, onTick, onSave, onRestore, inBox, callOf}
 use Rattle.spec_box.specs.Lists.{Calling}
 
 -- another result for a call that is answered with this number

@@ -5,7 +5,7 @@ use mathlib.Core.List.{List, [], _∷_}
 use lib.Dec.{eqb, ltb}
 use lib.IntN.{pos}
 use lib.Ieee.{binary32, ofInt, add}
-use Rattle.spec_base.specs.Limits.{litresLimit}
+use Rattle.spec_base.specs.Limits.{litresLimit, farmCount}
 use Rattle.spec_base.specs.Sets.{insert, remove}
 use Rattle.spec_language.specs.Statement.{Statement, nothing, pause, emit, exit, seq, par, loop, present, signal, try, setpause, suspend, held}
 use Rattle.spec_language.specs.Litres.{delivered}
@@ -14,7 +14,7 @@ use Rattle.spec_sequence.specs.Check.{Checked, sound, bad, checked}
 use Rattle.spec_base.specs.Parts.{put}
 use Rattle.spec_base.specs.WholeLitres.{litres}
 use Rattle.spec_bay.specs.Ledgers as Ledgers
-use Rattle.spec_bay.specs.Ledgers.{farmCount, totalIn, totalFloat, added}
+use Rattle.spec_bay.specs.Ledgers.{totalIn, totalFloat, added}
 use Rattle.spec_bay.specs.Called.{Called, called, number, memoryAfter, lentAfter}
 use Rattle.spec_bay.specs.Stretch.{stretchLength, sequenceIn, readBackIn, stateIn, ledgerIn, withLedger}
 use Rattle.spec_tick.specs.Tick.{tickOf}

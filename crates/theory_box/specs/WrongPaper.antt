@@ -4,7 +4,7 @@ use mathlib.Core.Bool.{not, _&&_, cond}
 use mathlib.Core.List.{List, [], _∷_}
 use lib.ListN.{length, replicate}
 use lib.Dec.{eqb}
-use Rattle.spec_base.specs.Limits.{signalBytes}
+use Rattle.spec_base.specs.Limits.{signalBytes, bayCount}
 use Rattle.spec_tick.specs.AnswerRecord.{answerLength}
 use Rattle.spec_tick.specs.Record.{recordLength}
 use Rattle.spec_tick.specs.Recording.{blank}
@@ -14,7 +14,7 @@ use Rattle.spec_bay.specs.Table.{lookup}
 use Rattle.spec_bay.specs.Ledgers.{ledgerLength, readingLength}
 use Rattle.spec_bay.specs.Called.{Called, called, number, memoryAfter, lentAfter, first}
 use Rattle.spec_bay.specs.Stretch.{sequenceAt, readBackAt, bayLength, stretchLength, isEmpty, positionsIn, Terms}
-use Rattle.spec_box.specs.Box.{bayCount, stretchOf, Call, admit, release, tick, save, restore, ledger, buffers, callOf}
+use Rattle.spec_box.specs.Box.{stretchOf, Call, admit, release, tick, save, restore, ledger, buffers, callOf}
 use Rattle.spec_box.specs.Lists.{Calling, Request}
 
 -- ---- calls to bay 0

@@ -9,7 +9,7 @@ use mathlib.Core.Option.{Option, some, none}
 use mathlib.Core.List.{List, []}
 use lib.ListN.{length}
 use lib.Dec.{eqb, leb}
-use Rattle.spec_base.specs.Limits.{signalCount}
+use Rattle.spec_base.specs.Limits.{signalCount, maxUnknown, sharedCeiling, bayCount}
 use Rattle.spec_base.specs.Sets.{difference, membersFrom}
 use Rattle.spec_language.specs.Ceiling.{ceiling}
 use Rattle.spec_sequence.specs.Program.{program}
@@ -37,12 +37,12 @@ use Rattle.numbers.proofs.Zeros.{length-zeros}
 use Rattle.spec_bay.specs.Table.{lookup, Kept, kept, numberKept, saveOf, forgetOf}
 use Rattle.box_positions.proofs.Theorems.{save-number, forget-number}
 use Rattle.spec_bay.specs.Preview as fillings
-use Rattle.spec_bay.specs.Preview.{Previewed, previewed, previewLength, maxUnknown, answersOf, previewBytes, findings, previewOf}
+use Rattle.spec_bay.specs.Preview.{Previewed, previewed, previewLength, answersOf, previewBytes, findings, previewOf}
 use Rattle.theory_bay.proofs.Numbers.{Replying, turns-down, runs, replying, other-buffer, refused-preview, shown-preview, tick-replied}
 use Rattle.spec_bay.specs.Called.{Called, called, number}
 use Rattle.spec_bay.specs.Stretch.{stretchLength, sequenceIn, readBackIn, stateIn, positionsIn, Terms, filled}
-use Rattle.spec_bay.specs.BayCalls.{sharedCeiling, byCheck, positionsKept, restored, bayTickOf, bayReleaseOf, bayAdmitOf, baySaveOf, bayForgetOf, bayRestoreOf, bayServiceOf, bayPanelOf, bayPreviewOf, bayLedgerOf, bayNewYearOf}
-use Rattle.spec_box.specs.Box.{bayCount, boxLength, emptyBox, stretchOf, present, Call, admit, release, tick, save, restore, forget, service, panel, preview, ledger, newYear, buffers, bayCall, isFor, callOf}
+use Rattle.spec_bay.specs.BayCalls.{byCheck, positionsKept, restored, bayTickOf, bayReleaseOf, bayAdmitOf, baySaveOf, bayForgetOf, bayRestoreOf, bayServiceOf, bayPanelOf, bayPreviewOf, bayLedgerOf, bayNewYearOf}
+use Rattle.spec_box.specs.Box.{boxLength, emptyBox, stretchOf, present, Call, admit, release, tick, save, restore, forget, service, panel, preview, ledger, newYear, buffers, bayCall, isFor, callOf}
 use Rattle.spec_box.specs.Lists.{Request, boxAfter}
 use Rattle.spec_box.specs.Shares.{AllSendable}
 use Rattle.spec_box.specs.BayRuns.{paperBuffer}

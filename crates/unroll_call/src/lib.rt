@@ -10,6 +10,7 @@ ghost use Rattle.spec_base.specs.Limits.{maxBytes, maxDepth};
 ghost use Rattle.layout.specs.Layout.{Ready};
 ghost use Rattle.unroll_call.specs.Unrolling.{UnrollMeets, PlainMeets};
 use layout::SecondParts;
+use limits::rows;
 use notes::Notes;
 
 const MAX_BYTES: u64 = limits::MAX_BYTES as u64;
@@ -36,10 +37,10 @@ fn of_plain(sequence: &[u8], second: &SecondParts, buffer: &mut [u8]) -> Result
 {
     let n = crate::sizes::of_statement(sequence, 0, limits::MAX_DEPTH, second);
     if n.whole > MAX_BYTES {
-        return refused(21);
+        return refused(rows::UNROLLED);
     }
     if n.depth > MAX_DEPTH {
-        return refused(21);
+        return refused(rows::UNROLLED);
     }
     let count = crate::writer::write(sequence, 0, limits::MAX_DEPTH, second, 0, buffer);
     Result { number: 0, count }
@@ -50,7 +51,7 @@ pub fn unroll(sequence: &[u8], read_back: u32, buffer: &mut [u8]) -> Result
     ensures { λ r. ⌜ UnrollMeets r (now (buffer .exit)) (now (sequence .entry)) «read_back» (now (buffer .entry)) ⌝ }
 {
     if buffer.len() != limits::MAX_BYTES {
-        return refused(1);
+        return refused(rows::LENGTH);
     }
     let mut second: SecondParts = [0; limits::MAX_BYTES];
     let mut notes: Notes = [0; notes::LENGTH];
@@ -62,5 +63,5 @@ pub fn unroll(sequence: &[u8], read_back: u32, buffer: &mut [u8]) -> Result
     if labels::is_empty(setpauses) {
         return of_plain(sequence, &second, buffer);
     }
-    refused(20)
+    refused(rows::SETPAUSE)
 }

@@ -2,7 +2,8 @@ use Prim.Native.Nat.{_-_, _*_, _^_, _≤_}
 use mathlib.Core.Path.{_≡_}
 use native.Mathlib.Omega.{arith}
 use borrow.Author.Needs.{needs}
-use Rattle.spec_box.specs.Box.{bayCount, present}
+use Rattle.spec_base.specs.Limits.{bayCount}
+use Rattle.spec_box.specs.Box.{present}
 use Rattle.boxes.proofs.Summing.{none-present, one-more, all-present}
 use Rattle.boxes.proofs.present_in.Statement.{statement}
 use Rattle.boxes.proofs.present_in.Tie as tie

@@ -4,17 +4,11 @@ use borrow.Author.Needs.{needs}
 use Rattle.commands.proofs.delivery.Statement.{statement}
 use Rattle.commands.proofs.delivery.Tie as tie
 
-mul-result : tie.Need-mul-result
-mul-result c = search needs
-
 returns : tie.Need-returns
 returns c = let i = c .before .before in deliver-short (i .args .s .now) (i .pre .1) (i .pre .0) (c .if1 .taken)
 
 shared-slice-read-if2 : tie.Need-shared-slice-read-if2
 shared-slice-read-if2 c = search needs
-
-mul-result-2 : tie.Need-mul-result-2
-mul-result-2 c = search needs
 
 returns-2 : tie.Need-returns-2
 returns-2 c = let i = c .before .before .before .before in deliver-outside (i .args .s .now) (i .pre .1) (omega (arith, c .before .before .if1 .left)) (c .if2 .taken)
@@ -24,9 +18,6 @@ bits-requires c κs = search needs
 
 is-whole-requires : tie.Need-is-whole-requires
 is-whole-requires c κs = search needs
-
-mul-result-3 : tie.Need-mul-result-3
-mul-result-3 c = search needs
 
 returns-3 : tie.Need-returns-3
 returns-3 c =
@@ -46,13 +37,10 @@ pub delivery-spec : {M : Type 1} → statement M
 delivery-spec =
     tie.close
     (tie.spec
-    mul-result
     returns
     shared-slice-read-if2
-    mul-result-2
     returns-2
     bits-requires
     is-whole-requires
-    mul-result-3
     returns-3
     returns-4)

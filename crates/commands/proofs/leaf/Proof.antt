@@ -43,9 +43,6 @@ returns c =
     let i = c .before .before in
     bare (i .args .s .now) Command.nothing (ap commandOf (sym (i .pre .0 .1) ∙ c .if1 .taken) ∙ command-of-byte Command.nothing) refl (i .pre .0 .0)
 
-mul-result : tie.Need-mul-result
-mul-result c = search needs
-
 returns-2 : tie.Need-returns-2
 returns-2 c =
     let i = c .before .before .before in
@@ -78,9 +75,6 @@ shared-slice-read-in-range c = search needs
 in-range-requires : tie.Need-in-range-requires
 in-range-requires c κs = search needs
 
-mul-result-2 : tie.Need-mul-result-2
-mul-result-2 c = search needs
-
 returns-4 : tie.Need-returns-4
 returns-4 c =
     let i = c .before .before .before .before .before .before .before in
@@ -102,7 +96,6 @@ leaf-spec =
     tie.close
     (tie.spec
     returns
-    mul-result
     returns-2
     sub-delivery
     part-delivery-start
@@ -111,6 +104,5 @@ leaf-spec =
     returns-3
     shared-slice-read-in-range
     in-range-requires
-    mul-result-2
     returns-4
     returns-5)

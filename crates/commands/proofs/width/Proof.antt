@@ -36,9 +36,6 @@ operand-count-requires c κs = search needs
 enum-told : tie.Need-enum-told
 enum-told c = search needs
 
-mul-result : tie.Need-mul-result
-mul-result c = search needs
-
 enum-known-n : tie.Need-enum-known-n
 enum-known-n c = search needs
 
@@ -47,9 +44,6 @@ returns c =
     let i = c .before .before .before .before .before .before in
     let f = found (i .args .b) (i .args .s .now) (i .pre .0 .1) (i .pre .1) _ (sym (c .before .before .n .given .1) ∙ c .before .before .before .before .operand-count .ensures) in
     bare (i .args .s .now) (f .of) (f .byte) (sym (f .counts) ∙ c .if1 .taken) (i .pre .0 .0)
-
-mul-result-2 : tie.Need-mul-result-2
-mul-result-2 c = search needs
 
 returns-2 : tie.Need-returns-2
 returns-2 c =
@@ -60,9 +54,6 @@ returns-2 c =
 
 shared-slice-read-if3 : tie.Need-shared-slice-read-if3
 shared-slice-read-if3 c = search needs
-
-mul-result-3 : tie.Need-mul-result-3
-mul-result-3 c = search needs
 
 returns-3 : tie.Need-returns-3
 returns-3 c =
@@ -89,13 +80,10 @@ width-spec =
     (tie.spec
     operand-count-requires
     enum-told
-    mul-result
     enum-known-n
     returns
-    mul-result-2
     returns-2
     shared-slice-read-if3
-    mul-result-3
     returns-3
     returns-4
     returns-5)

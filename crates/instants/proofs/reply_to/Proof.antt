@@ -3,7 +3,7 @@ use mathlib.Core.Path.{sym, subst}
 use borrow.Author.Needs.{needs}
 use Rattle.checks.proofs.Passing.{as-ready}
 use Rattle.program.specs.Deliveries.{HasNamed}
-use Rattle.instants.specs.Replies.{Begins}
+use Rattle.instants.specs.Replies.{CallStands}
 use Rattle.instants.proofs.Replying.{refused-reply, started-reply}
 use Rattle.instants.proofs.Delivering.{has-named, few-farms, refused-delivers, started-delivers}
 use Rattle.instants.proofs.reply_to.Statement.{statement}
@@ -20,19 +20,19 @@ enum-known-start c = search needs
 
 farms-requires : tie.Need-farms-requires
 farms-requires c κs =
-    let (h, d) = subst (Begins _ _ _ _ _) (c .before .before .start .given .1) (c .before .before .before .before .begin .ensures) in
+    let (h, d) = subst (CallStands _ _ _ _ _) (c .before .before .start .given .1) (c .before .before .before .before .begin .ensures) in
     few-farms (h .known .noted) (h .ranged)
 
 instant-requires : tie.Need-instant-requires
 instant-requires c κs =
-    let (h, d) = subst (Begins _ _ _ _ _) (c .before .before .before .before .before .start .given .1) (c .before .before .before .before .before .before .before .begin .ensures) in
+    let (h, d) = subst (CallStands _ _ _ _ _) (c .before .before .before .before .before .start .given .1) (c .before .before .before .before .before .before .before .begin .ensures) in
     (as-ready h, c .before .before .before .before .before .before .before .before .before .before .before .before .pre)
 
 returns : tie.Need-returns
 returns c =
     let k = c .before .before .before .before .before .before .before .before in
     let a = k .args in
-    let r = subst (Begins _ _ _ _ _) (c .before .row .given .1) (c .before .before .before .begin .ensures) in (
+    let r = subst (CallStands _ _ _ _ _) (c .before .row .given .1) (c .before .before .before .begin .ensures) in (
       refused-reply _ _ _ _ _ (r (a .input)),
       refused-delivers (a .sequence .now) (a .state .now) (a .input) (a .read-back) (a .farms .now) (a .litres .now) (k .pre) _ (r (a .input)),
     )
@@ -40,7 +40,7 @@ returns c =
 returns-2 : tie.Need-returns-2
 returns-2 c =
     let a = c .before .before .before .before .before .before .before .before .before .before .before .before .before .args in
-    let (h, d) = subst (Begins _ _ _ _ _) (c .before .before .before .before .before .before .start .given .1) (c .before .before .before .before .before .before .before .before .begin .ensures) in
+    let (h, d) = subst (CallStands _ _ _ _ _) (c .before .before .before .before .before .before .start .given .1) (c .before .before .before .before .before .before .before .before .begin .ensures) in
     let o = c .before .before .before .before .before .before .start .given .0 .0 in
     let f = c .before .before .before .farms in
     let n = subst (λ (s : ℕ). HasNamed s (h .p)) (sym (f .ensures)) (has-named (h .known .noted)) in

@@ -31,9 +31,6 @@ returns c g t =
     let i = c .before .before .before in
     done-bad _ g _ _ t t _ _ _ (i .pre .1 .1 .fits) (told (c .before)) (c .if1 .taken)
 
-mul-result : tie.Need-mul-result
-mul-result c = search needs
-
 returns-2 : tie.Need-returns-2
 returns-2 c g t = done-deep (head (c .before)) _ g _ t t _ _ (c .if2 .taken)
 
@@ -74,7 +71,6 @@ leaf-spec =
     (tie.spec
     leaf-requires
     returns
-    mul-result
     returns-2
     add-result
     returns-3

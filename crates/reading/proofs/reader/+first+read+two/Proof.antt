@@ -163,9 +163,6 @@ declared : (t : ℕ) (q : read-lts.After-declares (read-claims t) (read-at t) re
     → (partCount (head-of t q .of) ≡ 1) × (2 ≡ headLength (head-of t q .of)) × (declares (head-of t q .of) ≡ 1)
 declared t q e = declaration (head-of t q .of) (parted t q) (sym (q .declares .ensures ∙ ap isDeclaration (byte (head-of t q))) ∙ e)
 
-read-mul-result : (t : ℕ) → read-lts.Need-mul-result (read-claims t) (read-at t) read.Post
-read-mul-result t c = search needs
-
 read-returns : (t : ℕ) → read-lts.Need-returns (read-claims t) (read-at t) read.Post
 read-returns t c = done-empty _ _ _ _ _ _ _ _ (c .if1 .taken)
 
@@ -194,9 +191,6 @@ read-returns-3 t c = done-bad _ _ _ _ _ _ _ _ _ (c .before .before .before .befo
 
 read-is-deep-requires : (t : ℕ) → read-lts.Need-is-deep-requires (read-claims t) (read-at t) read.Post
 read-is-deep-requires t c κs = search needs
-
-read-mul-result-2 : (t : ℕ) → read-lts.Need-mul-result-2 (read-claims t) (read-at t) read.Post
-read-mul-result-2 t c = search needs
 
 read-returns-4 : (t : ℕ) → read-lts.Need-returns-4 (read-claims t) (read-at t) read.Post
 read-returns-4 t c = done-deep (heading _ _ (c .before .before .before .width .ensures) (c .before .before .if3 .left)) _ _ _ _ _ _ _ (eqb-true _ 0 (sym (c .before .is-deep .ensures) ∙ c .if4 .taken))
@@ -259,9 +253,6 @@ read-returns-6 t c =
 
 read-declare-requires : (t : ℕ) → read-lts.Need-declare-requires (read-claims t) (read-at t) read.Post
 read-declare-requires t c κs = c .before .before .before .before .before .before .before .before .before .before .before .before .before .before .before .pre .1 .allowed
-
-read-mul-result-3 : (t : ℕ) → read-lts.Need-mul-result-3 (read-claims t) (read-at t) read.Post
-read-mul-result-3 t c = search needs
 
 read-returns-7 : (t : ℕ) → read-lts.Need-returns-7 (read-claims t) (read-at t) read.Post
 read-returns-7 t c =
@@ -420,7 +411,6 @@ pub +first+read+two-spec : {M : Type 1} → statement M
     (first-read-requires t)
     (first-returns-2 t))
     (λ t. read-lts.spec (read-claims t) (read-at t) read.Post
-    (read-mul-result t)
     (read-returns t)
     (read-shared-slice-read-b t)
     (read-is-leaf-requires t)
@@ -429,7 +419,6 @@ pub +first+read+two-spec : {M : Type 1} → statement M
     (read-width-requires t)
     (read-returns-3 t)
     (read-is-deep-requires t)
-    (read-mul-result-2 t)
     (read-returns-4 t)
     (read-is-choice-requires t)
     (read-declares-requires t)
@@ -446,7 +435,6 @@ pub +first+read+two-spec : {M : Type 1} → statement M
     (read-two-requires-2 t)
     (read-returns-6 t)
     (read-declare-requires t)
-    (read-mul-result-3 t)
     (read-returns-7 t)
     (read-sub-read t)
     (read-part-read-start t)
