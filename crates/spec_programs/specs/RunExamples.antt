@@ -1,5 +1,5 @@
--- 01's example of a run (01, 'Bays to run'; 02, item 5): 08 00 04 02 00 04 01 01 02 01 and twelve bytes 00; and one with a
--- read-back set.
+-- 01's example of a run (01, 'Bays to run'; 02, item 5): 08 00 04 02 00 04 01 01 02 01 and twelve bytes 00; one with a read-back set,
+-- and one that is refused for it.
 use Prim.Native.Nat.{ℕ}
 use mathlib.Core.List.{List, [], _∷_, _++_}
 use Rattle.spec_programs.specs.Text.{heading, ending}
@@ -41,3 +41,9 @@ readBackLine =
 
 abbrev pub readBackListing : List ℕ
 readBackListing = heading ++ (readBackLine ++ ending)
+
+-- six signals inside each other, with signal 0 read back: a seventh declaration, which the check turns down with 6
+abbrev pub deepFile : List ℕ
+deepFile =
+    0x0D ∷ 0x00 ∷ 0x08 ∷ 0x01 ∷ 0x08 ∷ 0x02 ∷ 0x08 ∷ 0x03 ∷ 0x08 ∷ 0x04 ∷ 0x08 ∷ 0x05 ∷ 0x08 ∷ 0x06 ∷ 0x00 ∷ 0x01 ∷ 0x00
+    ∷ 0x00 ∷ 0x00 ∷ []
