@@ -6,7 +6,7 @@ ghost use Rattle.box_bays.specs.Moves.{bay_moved_of};
 
 use crate::naming::Naming;
 
-#[derive(Drop)]
+#[derive(Clone, Copy)]
 pub enum Moving {
     Release,
     Named(Naming, u32),

@@ -1,5 +1,7 @@
 // The calls of one bay on its slot, the bytes that a box has for it (02, items 8 to 12): admission and release, the tick with
 // ledger and record, positions, what service and panel see, preview, ledger and new year.
+#![tactic(auto)]
+
 pub mod admission;
 pub mod bufferless;
 pub mod fields;

@@ -10,7 +10,7 @@ use crate::fields::{BAY_LENGTH, COUNT_AT, POSITIONS_AT, STATE_AT};
 use limits::{MAX_POSITIONS, rows};
 
 // The three calls with a name.
-#[derive(Drop)]
+#[derive(Clone, Copy)]
 pub enum Naming {
     Save,
     Restore,

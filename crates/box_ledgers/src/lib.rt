@@ -1,5 +1,7 @@
 // The year's ledger of a bay number (02, item 12): 32 totals in 128 lent bytes, in single precision, the litres of an instant added
 // to them, and a reading of them with the ledger's total. No box is known here.
+#![tactic(auto)]
+
 ghost use Rattle.std.specs.Prelude.{◌≡◌, false, ◌+◌, ◌≤◌, ◌<◌, ◌*◌, ltb, length, get_or};
 ghost use Rattle.std.proofs.lemmas.List.Edits.{sets};
 ghost use Rattle.spec_base.specs.Bytes.{le_bytes};

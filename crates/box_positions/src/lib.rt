@@ -1,5 +1,7 @@
 // The positions of a bay (02, item 9) as a table of bytes: a name looked up, saved and forgotten; and the theorems that the table
 // is the positions by name.
+#![tactic(auto)]
+
 ghost use Rattle.std.specs.Prelude.{◌≡◌, cond, ◌<◌, length, ltb};
 ghost use Rattle.spec_base.specs.Limits.{max_positions};
 ghost use Rattle.labels.specs.Labels.{label_set};

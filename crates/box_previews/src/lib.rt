@@ -1,5 +1,7 @@
 // A preview of an instant, some of whose inputs have no known status (02, item 11): the sequence is checked and the state read
 // once, then an instant is found for each filling that can differ, and the findings are put together.
+#![tactic(auto)]
+
 ghost use Rattle.std.specs.Prelude.{◌≡◌, ◌||◌, length};
 ghost use Rattle.spec_bay.specs.Preview.{alone, shared_by, both, bit, preview_length, preview_bytes, found_in, findings, previewed, shown_by, preview_of};
 ghost use Rattle.spec_base.specs.Sets.{Disjoint};

@@ -1,5 +1,7 @@
 // The calls on a box of eight bays (02, items 8 to 12): whether a call has a bay, by the numbers 13 and 1, and then the call on
 // that bay's slot of the box.
+#![tactic(auto)]
+
 ghost use Rattle.spec_base.specs.Limits.{bay_count};
 ghost use Rattle.std.specs.Prelude.{◌≡◌, [], ◌∷◌, ◌*◌, ◌^◌, ◌≤◌, length};
 ghost use Rattle.boxes.specs.Entries.{fits, either, entry_of};

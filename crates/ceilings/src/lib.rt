@@ -1,5 +1,7 @@
 // The ceiling on the reactions of an instant (02, item 6), from the bytes of a sequence and a read-back set: how many commands a
 // statement has, how many loops and signals stand around one, and the product of these numbers.
+#![tactic(auto)]
+
 ghost use Rattle.std.specs.Prelude.{◌≡◌, max, ◌+◌, ◌*◌, ◌^◌, ℕ, length, List};
 ghost use Rattle.spec_base.specs.Limits.{max_depth, signal_count};
 ghost use Rattle.ceilings.specs.Extents.{HeadAt, Countable, Tallied, HasWith};
@@ -14,7 +16,7 @@ use layout::SecondParts;
 use notes::Notes;
 
 // Of a statement: its commands, and the greatest numbers of loops and of signals around one.
-#[derive(Drop)]
+#[derive(Clone, Copy)]
 pub struct Extent {
     pub commands: u32,
     pub loops: u32,
@@ -22,7 +24,7 @@ pub struct Extent {
 }
 
 // A command: its own bytes and its parts, counted.
-#[derive(Drop)]
+#[derive(Clone, Copy)]
 pub struct Head {
     pub bytes: usize,
     pub parts: u8,
@@ -66,7 +68,7 @@ fn greater(x: u32, y: u32) -> u32
 }
 
 // Of a statement: its bytes, its commands, and the greatest number of loops around one.
-#[derive(Drop)]
+#[derive(Clone, Copy)]
 pub struct Tally {
     pub bytes: usize,
     pub commands: u32,
@@ -139,7 +141,7 @@ fn of_accepted(sequence: &[u8], read_back: u32, notes: &Notes) -> u32
 }
 
 // The row that turns a sequence down, or the ceiling of one that passes the check.
-#[derive(Drop)]
+#[derive(Clone, Copy)]
 pub enum Plan {
     Refused(u8),
     Takes(u32),

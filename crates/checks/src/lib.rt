@@ -1,5 +1,7 @@
 // The check of a sequence with a read-back set (01, rows 2 to 10; 02, row 18): reading first, then the other rows in their order.
 // It leaves the table of second parts and the notes of an accepted sequence.
+#![tactic(auto)]
+
 ghost use Rattle.spec_base.specs.Limits.{max_depth, max_bytes, signal_count, depth_row, behind_row};
 ghost use Rattle.wellformed.specs.Survey.{Standing};
 ghost use Rattle.checks.specs.Labelling.{ByLabels};

@@ -1,5 +1,7 @@
 // The table of commands (01, 'Commands'; 02, items 1 and 2) by cases on the command byte, with no constant array; and the head of a
 // command, which is its own bytes, with rows 3 to 5 and 18.
+#![tactic(auto)]
+
 ghost use Rattle.std.specs.Prelude.{◌≡◌, true, false, ◌<◌, length, get_or};
 ghost use Rattle.spec_sequence.specs.Commands.{command_of};
 ghost use Rattle.commands.specs.Counts.{count_of, operands_at, parts_at, operand_in_range, is_leaf};
@@ -8,7 +10,7 @@ ghost use Rattle.layout.specs.Walk.{head_of};
 ghost use Rattle.commands.specs.Shapes.{HasShape};
 
 // A count, or that the byte has no command.
-#[derive(Drop)]
+#[derive(Clone, Copy)]
 pub enum Count {
     NoCommand,
     Of(u8),
@@ -94,7 +96,7 @@ pub fn is_leaf(b: u8) -> bool
 }
 
 // A command by the number of its parts, with the bytes of its own.
-#[derive(Drop)]
+#[derive(Clone, Copy)]
 pub enum Shape {
     Leaf(usize),
     One(usize),

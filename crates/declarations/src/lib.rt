@@ -1,5 +1,7 @@
 // The rules of a signal (01, 'One reaction'; 02, items 4 to 6): which of the five cases fits the two runs of its body, and what the
 // declaration makes of them, or of one run that stands for both.
+#![tactic(auto)]
+
 ghost use Rattle.std.specs.Prelude.{◌≡◌, ◌+◌, ℕ};
 ghost use Rattle.declarations.specs.Choices.{choice_of, case_in};
 ghost use Rattle.spec_base.specs.Sets.{none, join, remove};
@@ -15,7 +17,7 @@ use limits::kinds;
 use reaction::Reaction;
 
 // The five signal cases of 01.
-#[derive(Drop)]
+#[derive(Clone, Copy)]
 pub enum Choice {
     Both,
     Neither,

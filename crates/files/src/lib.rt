@@ -1,4 +1,6 @@
 // The file of a run (01, 'Bays to run'; 02, item 5): whether it is whole, and its sequence, read-back set and inputs.
+#![tactic(auto)]
+
 ghost use Rattle.std.specs.Prelude.{◌<◌, ◌≡◌, drop};
 ghost use Rattle.spec_programs.specs.File.{sequence_length, read_back_at, inputs_at, sequence_in, read_back_in, inputs_in, first, whole};
 ghost use Rattle.files.specs.Answers.{input_by};
@@ -11,7 +13,7 @@ const LENGTH_BYTES: usize = 2;
 // The most bytes of a file, its first two among them.
 const MAX_FILE: usize = 65536;
 
-#[derive(Drop)]
+#[derive(Clone, Copy)]
 pub enum Input {
     Word(u32),
     Nothing,

@@ -1,5 +1,7 @@
 // A call of the tick (01): the lengths of its buffers (row 1), the check, what a state record holds (rows 11 and 12), the reply of the
 // core, which is a value, and both records, which are written last.
+#![tactic(auto)]
+
 ghost use Rattle.std.specs.Prelude.{◌≡◌, length, replicate, ◌&&◌, eqb};
 ghost use Rattle.spec_base.specs.Limits.{max_bytes, farm_count};
 ghost use Rattle.spec_tick.specs.StateRecord.{state_length};
@@ -48,7 +50,7 @@ pub fn finish(state: &mut [u8], answer: &mut [u8], r: Reaction) -> u8
 }
 
 // What a call comes to before it reacts: the row that turns it down, or where its sequence starts.
-#[derive(Drop)]
+#[derive(Clone, Copy)]
 pub enum Standing {
     Refused(u8),
     From(Start),
@@ -98,7 +100,7 @@ pub fn begin(
 }
 
 // What a call comes to before anything is written: the row that turns it down, or its reaction.
-#[derive(Drop)]
+#[derive(Clone, Copy)]
 pub enum Reply {
     Refused(u8),
     Reacted(Reaction),

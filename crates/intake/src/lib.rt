@@ -1,5 +1,7 @@
 // What hosts in C call: the check, the ceiling (02, item 6), the tick, the calls on a box of bays (02, items 8 to 12), loops
 // written out (02, item 13), and the replay of a recording (02, item 14). Each is one line.
+#![tactic(auto)]
+
 ghost use Rattle.std.specs.Prelude.{◌≡◌, [], ◌∷◌};
 ghost use Rattle.spec_sequence.specs.Check.{checked, check_of};
 ghost use Rattle.spec_sequence.specs.Ceilings.{ceiling_of};

@@ -1,5 +1,7 @@
 // A set of labels 0 to 127 as two words of 64 bits, which other crates see by `from_words`, `low_word` and `high_word` alone. Every
 // function takes any index; one outside the width is no member.
+#![tactic(auto)]
+
 ghost use Rattle.std.specs.Prelude.{◌≡◌, true, ◌↔◌, ◌/◌, ◌%◌, ◌^◌, eqb};
 ghost use Rattle.spec_base.specs.Limits.{word_labels, label_count};
 ghost use Rattle.spec_base.specs.Sets.{member, none, join, remove, Subset, Disjoint, below, from};
@@ -9,7 +11,7 @@ ghost use Rattle.labels.specs.Labels.{label_set};
 use limits::{LABELS, WORD_LABELS};
 
 // The labels below 64, and the others.
-#[derive(Drop)]
+#[derive(Clone, Copy)]
 pub struct Labels {
     low: u64,
     high: u64,

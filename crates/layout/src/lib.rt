@@ -1,5 +1,6 @@
 // How a statement is encoded in bytes, and the two arrays that reading fills for the traversals after it: the table of second parts
 // and the notes, an index of labels. Definitions for contracts, laws, and the table's type.
+#![tactic(auto)]
 
 // The unit of the reader's answer: so many for a row; below it, an offset.
 pub const ROW_UNIT: usize = 1048576;

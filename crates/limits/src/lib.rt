@@ -1,5 +1,7 @@
 // The widths and limits of 01 and 02, each named once for the code; spec_base/specs/Limits names them for the definitions. Labels
 // are 0 to 127 (02, item 7), signals 0 to 31, exits 1 to 15.
+#![tactic(auto)]
+
 pub mod kinds;
 pub mod rows;
 

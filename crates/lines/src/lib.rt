@@ -1,4 +1,6 @@
 // The lines of a listing (01, 'Bays to run'), each at the end of a buffer of its own: text is put before the text that is there.
+#![tactic(auto)]
+
 ghost use Rattle.std.specs.Prelude.{◌+◌, ◌-◌, ◌≤◌, ◌<◌, ◌^◌, ◌≡◌, [], ◌∷◌, ◌++◌, length};
 ghost use Rattle.spec_programs.specs.Text.{numeral, digit as Text·digit, newline, input_cut, heading as Text·heading, ending as Text·ending, refusal as Text·refusal};
 ghost use Rattle.lines.specs.Buffer.{Prepended};
@@ -76,7 +78,7 @@ fn put_field(line: &mut [u8], end: usize, base: u64, width: usize, x: u64, after
 pub const LINE_LENGTH: usize = 160;
 
 // A line: its text is the bytes from `from` on. The greatest takes at most 138 bytes.
-#[derive(Drop)]
+#[derive(Clone, Copy)]
 pub struct Line {
     pub bytes: [u8; LINE_LENGTH],
     pub from: usize,

@@ -1,5 +1,7 @@
 // What the run program prints, as a library over slices (01, 'Bays to run'): what the file of a run comes to, and its listing piece
 // by piece.
+#![tactic(auto)]
+
 ghost use Rattle.std.specs.Prelude.{ℕ, ◌≡◌, List, drop};
 ghost use Rattle.spec_programs.specs.Stages.{opening, isFinished, running, finished, opened, turn_of, turn as Stages·turn};
 ghost use Rattle.listing.specs.Stages.{stage_in, stage_after};
@@ -16,7 +18,7 @@ use lines::Line;
 use records::{ANSWER_LENGTH, STATE_LENGTH};
 
 // Before the first line, before the instant that so many inputs precede, before `end`, or after it.
-#[derive(Drop)]
+#[derive(Clone, Copy)]
 pub enum Stage {
     Opening,
     Running(usize),
@@ -25,7 +27,7 @@ pub enum Stage {
 }
 
 // A run under way: its stage, and the machine's state record.
-#[derive(Drop)]
+#[derive(Clone, Copy)]
 pub struct Run {
     pub stage: Stage,
     pub state: [u8; STATE_LENGTH],
@@ -65,7 +67,7 @@ fn following(phase: u8, i: usize) -> Stage
     }
 }
 
-#[derive(Drop)]
+#[derive(Clone, Copy)]
 pub enum Opened {
     Cut,
     Refused(u8),
@@ -87,7 +89,7 @@ fn open(file: &[u8]) -> Opened
 }
 
 // A piece of a listing, and the run after it.
-#[derive(Drop)]
+#[derive(Clone, Copy)]
 pub struct Piece {
     pub line: Line,
     pub run: Run,

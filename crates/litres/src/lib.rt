@@ -1,5 +1,7 @@
 // Litres as single-precision numbers (02, item 12): whether 32 bits are a whole number up to 16,777,216, and the laws of sums of
 // such numbers.
+#![tactic(auto)]
+
 ghost use Rattle.std.specs.Prelude.{◌≡◌, ◌+◌, ◌≤◌, length};
 ghost use Rattle.spec_base.specs.Bytes.{number_at};
 ghost use Rattle.std.specs.Float.{binary32};

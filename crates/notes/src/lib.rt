@@ -1,5 +1,7 @@
 // The notes that reading takes of a statement, in an array of words that the caller lends: the labels of its pauses and setpauses,
 // the ranks of the pauses, the most signals around a command, the farms named by 0C.
+#![tactic(auto)]
+
 ghost use Rattle.std.specs.Prelude.{◌≡◌, ◌<◌, ◌-◌, ◌≤◌, max, ◌^◌, cond, ltb};
 ghost use Rattle.spec_base.specs.Limits.{label_count, max_bytes, signal_count, max_signals};
 ghost use Rattle.layout.specs.Notes.{pauses_counted, notePause, noteSetpause, noteFarm, note_signals, pausesIn, setpausesIn, twice_in, most_in, farms_in, rank_in};

@@ -1,5 +1,7 @@
 // Numbers as bytes, lowest first (01), read and written for every width; bytes copied into a buffer; and the laws of bytes at an
 // offset of a list.
+#![tactic(auto)]
+
 pub mod copying;
 
 ghost use Rattle.std.specs.Prelude.{◌≡◌, ◌+◌, ◌^◌, ◌≤◌, ◌<◌, length, get_or, take, drop};

@@ -1,5 +1,7 @@
 // An instant of a program (02, item 5): the read-back declarations outside, the lowest outermost, and the sequence, which reacts or
 // resumes, inside.
+#![tactic(auto)]
+
 ghost use Rattle.std.specs.Prelude.{◌≡◌, replicate};
 ghost use Rattle.spec_base.specs.Limits.{max_depth, farm_count};
 ghost use Rattle.layout.specs.Layout.{Ready};
@@ -11,7 +13,7 @@ use layout::SecondParts;
 use reaction::{Deliveries, Reaction};
 
 // Where a sequence stands: at its beginning, or at its active pauses, by their ranks.
-#[derive(Drop)]
+#[derive(Clone, Copy)]
 pub enum Start {
     Fresh,
     Waiting(Labels),

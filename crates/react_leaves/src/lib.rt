@@ -1,5 +1,7 @@
 // Commands without parts where a statement reacts: nothing and pause, which a traversal answers at once, the value of an emission
 // from its bytes (02, item 12), and the reaction of each.
+#![tactic(auto)]
+
 ghost use Rattle.std.specs.Prelude.{◌≡◌, ℕ, ◌<◌, get_or, length, List, eqb};
 ghost use Rattle.spec_base.specs.Limits.{signal_count};
 ghost use Rattle.spec_base.specs.Sets.{none};
@@ -14,7 +16,7 @@ ghost use Rattle.react_leaves.specs.Started.{Started, Leaf};
 use reaction::{Deliveries, Reaction};
 
 // What an emission carries: 02 nothing, 0C litres.
-#[derive(Drop)]
+#[derive(Clone, Copy)]
 pub enum Value {
     Pure,
     Litres(f32),

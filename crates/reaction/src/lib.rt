@@ -1,5 +1,7 @@
 // What one reaction gives (01, 'One reaction'): its completion, the reactions of commands without parts, the number of reactions of
 // a tree from those of its parts (02, item 6), the signals that it asks for, and the litres of each farm (02, item 12).
+#![tactic(auto)]
+
 ghost use Rattle.std.specs.Prelude.{◌≡◌, cond, ◌+◌, ◌<◌, get_or, set};
 ghost use Rattle.spec_language.specs.Reaction.{is_wrong, ended, waiting, leaving, gives};
 ghost use Rattle.reaction.specs.Completions.{code_of, greater_of, is_ended, caught};
@@ -14,7 +16,7 @@ use labels::Labels;
 
 // The code: ended, waiting, leaving n enclosing try blocks, or wrong with kind and place of the first error. An instant is
 // wrong exactly if its tree of reactions has an error, so no error stands beside another code.
-#[derive(Drop)]
+#[derive(Clone, Copy)]
 pub enum Completion {
     Ended,
     Waiting,
@@ -88,7 +90,7 @@ pub fn caught(k: Completion) -> Completion
 
 // The greatest field first, so that no space is lost between two. `asked` are the signals whose status its tree asked for: where
 // a run of a signal's body did not ask for it, the other run is the same.
-#[derive(Drop)]
+#[derive(Clone, Copy)]
 pub struct Reaction {
     pub labels: Labels,
     pub emitted: u32,

@@ -14,7 +14,7 @@ use layout::SecondParts;
 use notes::Notes;
 
 // A statement: the count of its bytes and how many more signals may stand around it, or the row that turns it down.
-#[derive(Drop)]
+#[derive(Clone, Copy)]
 pub enum Reading {
     Accepted(usize, u8),
     Refused(u8),

@@ -1,5 +1,7 @@
 // The records of a machine and of an instant as bytes (01, 'States and resuming'; 02, items 6, 7 and 10): state record, answer
 // record, the record of an instant and what a panel shows of it; where each field begins, and functions that read and write it.
+#![tactic(auto)]
+
 ghost use Rattle.std.specs.Prelude.{◌≡◌, ◌+◌, ◌≤◌, length};
 ghost use Rattle.std.proofs.lemmas.List.Edits.{sets};
 ghost use Rattle.spec_base.specs.Limits.{label_bytes};

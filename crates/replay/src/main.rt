@@ -2,6 +2,8 @@
 // recording is the sequence's.
 //
 // The line is the library's; this program only reads and writes.
+#![tactic(auto)]
+
 use libc::{STDIN_FILENO, STDOUT_FILENO};
 
 // One byte more than a file may have, so that a longer one is seen.

@@ -1,5 +1,7 @@
 // The call that checks a recording against a sequence (02, item 14): one check, then an instant and 37 compared bytes for each
 // record. Nothing of the recording is believed but its inputs: the machine goes on from its own states, which need no row 11.
+#![tactic(auto)]
+
 ghost use Rattle.std.specs.Prelude.{◌≡◌};
 ghost use Rattle.labels.specs.Labels.{label_set};
 ghost use Rattle.instants.specs.Written.{Writable};
@@ -52,7 +54,7 @@ fn after(r: Reaction, notes: &Notes) -> Standing
 }
 
 // What a record comes to: it differs, or it is the instant's, and the machine stands where the instant has left it.
-#[derive(Drop)]
+#[derive(Clone, Copy)]
 pub enum Next {
     Differs,
     Stands(Standing),

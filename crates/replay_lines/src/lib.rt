@@ -1,4 +1,6 @@
 // What the replay program prints, as a library over slices (02, item 14): one line for a file.
+#![tactic(auto)]
+
 ghost use Rattle.lines.specs.Shown.{Displays};
 ghost use Rattle.spec_programs.specs.Verdict.{verdict_of};
 

@@ -1,5 +1,7 @@
 // A waiting statement resumes by the ranks of its active pauses; no expansion is built. Only parts with an active pause are
 // entered: the table of second parts says where one begins and how many pauses stand before it, which splits the ranks.
+#![tactic(auto)]
+
 pub mod kept;
 
 ghost use Rattle.std.specs.Prelude.{◌≡◌, ◌≤◌, length, get_or};

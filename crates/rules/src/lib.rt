@@ -1,5 +1,7 @@
 // The rules of commands with parts (01, 'One reaction'; 02, item 1), a function for each: what a command makes of the reactions of
 // its part or of its two parts. The rules of a signal are in `declarations`.
+#![tactic(auto)]
+
 ghost use Rattle.std.specs.Prelude.{◌≡◌, ℕ, ◌<◌, false};
 ghost use Rattle.spec_base.specs.Limits.{signal_count};
 ghost use Rattle.spec_base.specs.Sets.{only};

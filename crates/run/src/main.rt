@@ -1,6 +1,8 @@
 // The run program (01, 'Bays to run'): reads the file of a run on standard input and prints its listing.
 //
 // The listing is the library's, piece by piece; this program only reads, writes and counts its turns.
+#![tactic(auto)]
+
 use libc::{STDIN_FILENO, STDOUT_FILENO};
 use listing::Run;
 

@@ -1,5 +1,7 @@
 // A set of signals 0 to 31 as a number: bit i says whether signal i is a member. Every function takes any index; one outside the
 // width is no member.
+#![tactic(auto)]
+
 ghost use Rattle.std.specs.Prelude.{◌≡◌, length};
 ghost use Rattle.spec_base.specs.Limits.{signal_count};
 ghost use Rattle.spec_base.specs.Sets.{member, empty, join, common, difference, remove, members_from};

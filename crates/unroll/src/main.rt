@@ -2,6 +2,8 @@
 // sequence written out, or why there is no such file.
 //
 // What is written is the library's; this program only reads and writes.
+#![tactic(auto)]
+
 use libc::{STDIN_FILENO, STDOUT_FILENO};
 use lines::Line;
 use unroll_files::Answer;

@@ -1,5 +1,7 @@
 // The call that writes loops out (02, item 13): the original is checked once, then the sizes of the result are found by one
 // traversal, then it is written by another.
+#![tactic(auto)]
+
 pub mod heads;
 pub mod sizes;
 pub mod writer;
@@ -18,7 +20,7 @@ const MAX_BYTES: u64 = limits::MAX_BYTES as u64;
 const MAX_DEPTH: u32 = limits::MAX_DEPTH as u32;
 
 // The number, and the length of the result, 0 after an error.
-#[derive(Drop)]
+#[derive(Clone, Copy)]
 pub struct Result {
     pub number: u8,
     pub count: usize,

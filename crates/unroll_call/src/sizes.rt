@@ -8,7 +8,7 @@ use layout::SecondParts;
 
 // Of a statement: the bytes of its copy, and the bytes and the depth of it worked through. One of the three is wider, so that the
 // compiler adds them one by one: vector operations would bring read-only operands.
-#[derive(Drop)]
+#[derive(Clone, Copy)]
 pub struct Sizes {
     pub copy: u32,
     pub whole: u64,

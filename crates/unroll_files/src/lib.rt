@@ -1,11 +1,13 @@
 // What the unroll program writes, as a library over slices (02, item 13): the file of a run with its loops written out.
+#![tactic(auto)]
+
 ghost use Rattle.std.specs.Prelude.{◌≡◌};
 ghost use Rattle.spec_base.specs.Bytes.{le_bytes};
 ghost use Rattle.spec_programs.specs.File.{length_bytes};
 ghost use Rattle.spec_programs.specs.Output.{output_of};
 ghost use Rattle.unroll_files.specs.Answers.{output_by};
 
-#[derive(Drop)]
+#[derive(Clone, Copy)]
 pub enum Answer {
     Cut,
     Refused(u8),

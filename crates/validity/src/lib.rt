@@ -1,5 +1,7 @@
 // Row 11 of 01: whether a label set is valid for a sequence. Its active pauses are a set of ranks, and only parts with two of them
 // or more are visited.
+#![tactic(auto)]
+
 ghost use Rattle.std.specs.Prelude.{◌-◌, ◌≤◌, length};
 ghost use Rattle.labels.specs.Labels.{label_set};
 ghost use Rattle.layout.specs.Layout.{rest, Ready, Pair};
@@ -101,7 +103,7 @@ pub fn ranks(labels: Labels, notes: &Notes) -> Labels
 }
 
 // A valid set, with the ranks of its pauses, or none.
-#[derive(Drop)]
+#[derive(Clone, Copy)]
 pub enum Validity {
     Valid(Labels),
     Invalid,

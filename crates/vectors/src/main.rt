@@ -5,6 +5,8 @@
 // A line of the input is empty, a comment (#), a title, or an indented line of the vector below its title: bytes of the
 // sequence, its read-back set, or the inputs of a machine. The file stdin shows each form at its top. A malformed line ends the
 // run with a line that says which one it is.
+#![tactic(auto)]
+
 mod lines;
 mod ticks;
 mod vector;

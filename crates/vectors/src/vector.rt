@@ -5,7 +5,7 @@ ghost use Rattle.vectors_notation.specs.Room.{holds, zeroed, malformed_count};
 use vectors_notation::{Bytes, MALFORMED, zeros};
 
 // The sequence, and the read-back set of the calls that follow.
-#[derive(Drop)]
+#[derive(Clone, Copy)]
 pub struct Vector {
     pub sequence: Bytes,
     pub read_back: u32,

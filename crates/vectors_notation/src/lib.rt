@@ -1,4 +1,6 @@
 // How vectors are written: the numbers, words and bytes that a line of their file gives, and the lines that are printed.
+#![tactic(auto)]
+
 pub mod print;
 
 ghost use Rattle.std.specs.Prelude.{◌<◌, ◌≤◌, min, ◌+◌, ◌≡◌, length};
@@ -56,7 +58,7 @@ pub fn number(line: &[u8], at: usize, end: usize, base: u64) -> u64
 }
 
 // The number that a word is, and where the word ends.
-#[derive(Drop)]
+#[derive(Clone, Copy)]
 pub struct Parsed {
     pub value: u64,
     pub end: usize,
@@ -87,7 +89,7 @@ pub const ROOM: usize = 2048;
 pub const MALFORMED: usize = 0xFFFFFFFFFFFFFFFF;
 
 // The first `count` bytes of the buffer.
-#[derive(Drop)]
+#[derive(Clone, Copy)]
 pub struct Bytes {
     pub room: [u8; ROOM],
     pub count: usize,
