@@ -11,7 +11,7 @@ use Rattle.sets.proofs.Booleans.{clash, Tested, tested, same_test}
 use Rattle.sets.proofs.Members.{in_none}
 use Rattle.sets.proofs.Tests.{subset-is}
 use Rattle.sets.proofs.Lowest.{some_is}
-use Rattle.spec_language.specs.Statement.{Statement, nothing, pause, emit, exit, seq, par, loop, present, signal, try, setpause, suspend, held}
+use Rattle.spec_language.specs.Statement.{Statement, Value, nothing, pause, emit, exit, seq, par, loop, present, signal, try, setpause, suspend, held}
 use Rattle.spec_language.specs.Places.{Part, first, second, PartOf, loop₁, signal₁, try₁, suspend₁, Place, At, Alternative, Exclusive}
 use Rattle.spec_language.specs.States.{active}
 use Rattle.spec_language.specs.LabelTests.{Joint, alternative, parallel, pauses, valid}
@@ -125,12 +125,31 @@ module _ {j : Joint} {p q w : Statement} (base L : ℕ) (t : Joined j p q w) whe
       ∙ tests_from j (active p L) (active q L) (passes base p L) (passes (middle base p) q L)
       (f (together_part L (first_part t) h)) (g (together_part L (second_part t) h)) (together-apart L t h)
 
+-- no part
+in_nothing : {P : Type 0} {d : Part} {c : Statement} → PartOf d c nothing → P
+in_nothing i = elim i [ ]
+
+in_pause : {P : Type 0} {l : ℕ} {d : Part} {c : Statement} → PartOf d c (pause l) → P
+in_pause i = elim i [ ]
+
+in_emit : {P : Type 0} {s : ℕ} {v : Value} {d : Part} {c : Statement} → PartOf d c (emit s v) → P
+in_emit i = elim i [ ]
+
+in_exit : {P : Type 0} {n : ℕ} {d : Part} {c : Statement} → PartOf d c (exit n) → P
+in_exit i = elim i [ ]
+
+in_setpause : {P : Type 0} {l : ℕ} {d : Part} {c : Statement} → PartOf d c (setpause l) → P
+in_setpause i = elim i [ ]
+
+in_held : {P : Type 0} {s K : ℕ} {p : Statement} {d : Part} {c : Statement} → PartOf d c (held s K p) → P
+in_held i = elim i [ ]
+
 compatible-to : (base : ℕ) (p : Statement) (L : ℕ) → Tests base p L → Together p L
 unfolding compatible mask
-compatible-to base nothing L h = together_single L (λ x. elim x [ ]) (λ d c i. elim i [ ])
-compatible-to base (pause l) L h = together_single L (λ x. elim x [ ]) (λ d c i. elim i [ ])
-compatible-to base (emit s v) L h = together_single L (λ x. elim x [ ]) (λ d c i. elim i [ ])
-compatible-to base (exit n) L h = together_single L (λ x. elim x [ ]) (λ d c i. elim i [ ])
+compatible-to base nothing L h = together_single L (λ x. elim x [ ]) (λ d c i. in_nothing i)
+compatible-to base (pause l) L h = together_single L (λ x. elim x [ ]) (λ d c i. in_pause i)
+compatible-to base (emit s v) L h = together_single L (λ x. elim x [ ]) (λ d c i. in_emit i)
+compatible-to base (exit n) L h = together_single L (λ x. elim x [ ]) (λ d c i. in_exit i)
 compatible-to base (seq p q) L h = two_to base L sequence (compatible-to base p L) (compatible-to (middle base p) q L) h
 compatible-to base (par p q) L h = two_to base L sides (compatible-to base p L) (compatible-to (middle base p) q L) h
 compatible-to base (loop a p) L h = together_single L (λ x. elim x [ ]) (λ d c i. go i (compatible-to base p L h))
@@ -146,12 +165,12 @@ compatible-to base (try p) L h = together_single L (λ x. elim x [ ]) (λ d c i.
   where
     go : {d : Part} {c : Statement} → PartOf d c (try p) → Together p L → Together c L
     go try₁ f = f
-compatible-to base (setpause l) L h = together_single L (λ x. elim x [ ]) (λ d c i. elim i [ ])
+compatible-to base (setpause l) L h = together_single L (λ x. elim x [ ]) (λ d c i. in_setpause i)
 compatible-to base (suspend s p) L h = together_single L (λ x. elim x [ ]) (λ d c i. go i (compatible-to base p L h))
   where
     go : {d : Part} {c : Statement} → PartOf d c (suspend s p) → Together p L → Together c L
     go suspend₁ f = f
-compatible-to base (held s K p) L h = together_single L (λ x. elim x [ ]) (λ d c i. elim i [ ])
+compatible-to base (held s K p) L h = together_single L (λ x. elim x [ ]) (λ d c i. in_held i)
 
 compatible_from : (base : ℕ) (p : Statement) (L : ℕ) → Together p L → Tests base p L
 unfolding compatible mask

@@ -1,13 +1,13 @@
 -- Places in order: of two places of pauses and setpauses, one is the other, or one stands before the other across the
 -- parts of a command, which are alternatives or the sides of a parallel.
 use Prim.Native.Nat.{ℕ}
-use mathlib.Core.Path.{◌≡◌, refl, ap, subst}
+use mathlib.Core.Path.{◌≡◌, refl, sym, ap, subst, ◌∙◌}
 use mathlib.Core.Logic.{◌⊎◌, inl, inr}
-use mathlib.Core.List.{◌∷◌}
+use mathlib.Core.List.{◌∷◌, tail-eq_of_cons-eq, head-eq_of_cons-eq}
 use Rattle.spec_language.specs.Statement.{Statement, seq, par, present}
-use Rattle.spec_language.specs.Places.{Part, first, second, PartOf, seq₁, seq₂, par₁, par₂, present₁, present₂, Place, At, Alternative, Exclusive}
+use Rattle.spec_language.specs.Places.{Part, first, second, PartOf, seq₁, seq₂, par₁, par₂, loop₁, present₁, present₂, signal₁, try₁, suspend₁, Place, At, Alternative, Exclusive}
 use Rattle.spec_language.specs.LabelTests.{Joint, alternative, parallel}
-use Rattle.theory_language.proofs.Places.{part_unique}
+use Rattle.theory_language.proofs.Places.{part_unique, first≢second, other_heads}
 
 -- a command of two parts, with what they are to each other
 pub data Joined : Joint → Statement → Statement → Statement → Type 0 where
@@ -72,13 +72,26 @@ no_sides : {p q w : Statement} → Joined parallel p q w → Alternative w → �
 no_sides sides x = elim x [ ]
 
 -- sides of a parallel are compatible
+beside_at : {p : Statement} {a b x y : Place} → Before parallel p a b → Exclusive p x y → x ≡ a → y ≡ b → ⊥
+beside_at (Before.across t) (Exclusive.apart x) h k = first≢second (head-eq_of_cons-eq h)
+beside_at (Before.across t) (Exclusive.apart' x) h k = no_sides t x
+beside_at (Before.across t) (Exclusive.inside i x) h k = first≢second (sym (head-eq_of_cons-eq k) ∙ head-eq_of_cons-eq h)
+beside_at (Before.inside i r) (Exclusive.apart x) h k = other_heads h k refl
+beside_at (Before.inside i r) (Exclusive.apart' x) h k = other_heads k h refl
+beside_at {p = p} (Before.inside {d = d} {c = c} i r) (Exclusive.inside {c = c'} {a = a'} {b = b'} k x) h e =
+    let m : PartOf d c' p = subst (λ (z : Part). PartOf z c' p) (head-eq_of_cons-eq h) k in
+    beside_at r (subst (λ (z : Statement). Exclusive z a' b') (part_unique m i) x) (tail-eq_of_cons-eq h) (tail-eq_of_cons-eq e)
+
 pub beside-compatible : {p : Statement} {a b : Place} → Before parallel p a b → Exclusive p a b → ⊥
-beside-compatible (Before.across t) (Exclusive.apart' x) = no_sides t x
-beside-compatible (Before.inside {a = a} {b = b} i r) (Exclusive.inside k x) =
-    beside-compatible r (subst (λ (c : Statement). Exclusive c a b) (part_unique k i) x)
+beside-compatible r x = beside_at r x refl refl
+
+irreflexive_at : {p : Statement} {a b : Place} → Exclusive p a b → a ≡ b → ⊥
+irreflexive_at (Exclusive.apart x) e = first≢second (head-eq_of_cons-eq e)
+irreflexive_at (Exclusive.apart' x) e = first≢second (sym (head-eq_of_cons-eq e))
+irreflexive_at (Exclusive.inside i x) e = irreflexive_at x (tail-eq_of_cons-eq e)
 
 pub exclusive_irreflexive : {p : Statement} {a : Place} → Exclusive p a a → ⊥
-exclusive_irreflexive (Exclusive.inside i x) = exclusive_irreflexive x
+exclusive_irreflexive x = irreflexive_at x refl
 
 -- ---- two commands without parts
 pub data Order (p : Statement) (a b : Place) : Type 0 where
@@ -96,6 +109,10 @@ joint : {c c₂ w : Statement} → PartOf first c w → PartOf second c₂ w →
 joint seq₁ seq₂ = (alternative, sequence)
 joint present₁ present₂ = (alternative, test)
 joint par₁ par₂ = (parallel, sides)
+joint loop₁ x = elim x [ ]
+joint signal₁ x = elim x [ ]
+joint try₁ x = elim x [ ]
+joint suspend₁ x = elim x [ ]
 
 order_parts : {d e : Part} {c c₂ w : Statement} {a b : Place} → PartOf d c w → PartOf e c₂ w → (PartOf d c₂ w → d ≡ e → Order w (d ∷ a) (d ∷ b)) → Order w (d ∷ a) (e ∷ b)
 order_parts {d = first} {e = first} i k f = f k refl

@@ -1,6 +1,6 @@
 -- Laws of parts, places and exclusive places: how each statement about a part is one about the whole.
 use Prim.Native.Nat.{ℕ}
-use mathlib.Core.Path.{◌≡◌, refl, subst}
+use mathlib.Core.Path.{◌≡◌, refl, sym, subst, ◌∙◌}
 use mathlib.Core.Bool.{true}
 use mathlib.Core.List.{◌∷◌, tail-eq_of_cons-eq, head-eq_of_cons-eq}
 use native.Mathlib.Omega.{arith}
@@ -53,8 +53,20 @@ pub together_part : {d : Part} {c p : Statement} (L : ℕ) → PartOf d c p → 
 together_part {d} L i h k l x y a b u v e =
     h k l x y (d ∷ a) (d ∷ b) (At.inside i u) (At.inside i v) (Exclusive.inside i e)
 
+pub other_heads : {d e : Part} {a b x y : Place} → first ∷ x ≡ d ∷ a → second ∷ y ≡ e ∷ b → d ≡ e → ⊥
+other_heads h k e = first≢second (head-eq_of_cons-eq h ∙ e ∙ sym (head-eq_of_cons-eq k))
+
+exclusive_at : {d : Part} {c p : Statement} {a b x y : Place} → PartOf d c p → Exclusive p x y → x ≡ d ∷ a → y ≡ d ∷ b → Exclusive c a b
+exclusive_at i (Exclusive.apart t) h k = absurd (other_heads h k refl)
+exclusive_at i (Exclusive.apart' t) h k = absurd (other_heads k h refl)
+exclusive_at {d = d} {c = c} {p = p} {a = a} {b = b} i (Exclusive.inside {d = e} {c = c'} {a = a'} {b = b'} j x) h k =
+    let m : PartOf d c' p = subst (λ (z : Part). PartOf z c' p) (head-eq_of_cons-eq h) j in
+    let u : Exclusive c' a b' = subst (λ (z : Place). Exclusive c' z b') (tail-eq_of_cons-eq h) x in
+    let v : Exclusive c' a b = subst (λ (z : Place). Exclusive c' a z) (tail-eq_of_cons-eq k) u in
+    subst (λ (z : Statement). Exclusive z a b) (part_unique m i) v
+
 pub exclusive_part : {d : Part} {c p : Statement} {a b : Place} → PartOf d c p → Exclusive p (d ∷ a) (d ∷ b) → Exclusive c a b
-exclusive_part {a = a} {b = b} i (Exclusive.inside j x) = subst (λ (c : Statement). Exclusive c a b) (part_unique j i) x
+exclusive_part i x = exclusive_at i x refl refl
 
 pub compatible-part : {d : Part} {c p : Statement} {a b : Place} → PartOf d c p → Compatible c a b → Compatible p (d ∷ a) (d ∷ b)
 compatible-part i h x = h (exclusive_part i x)
