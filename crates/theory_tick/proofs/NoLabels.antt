@@ -67,7 +67,7 @@ unfolding paper
 same_reports v w h [] = refl
 same_reports v w h (c ∷ calls) =
     let x = same-tick v w h c.input (length c.buffer) in
-    ap₂ {B = List Report} {C = List Report} ◌∷◌ x.0 (same_reports _ _ x.1 calls)
+    ap₂ {B = List Report} {C = List Report} ◌∷◌ x.0 (same_reports (paper_tick v c.input (length c.buffer)).1 (paper_tick w c.input (length c.buffer)).1 x.1 calls)
 
 -- THE PAPER KNOWS NO LABELS
 pub paper_knows_no_labels : (t u : Statement) → erase t ≡ erase u → (calls : List Call)

@@ -22,9 +22,12 @@ use Rattle.theory_tick.proofs.ErrorPlaces.{AllErrors, errors-declared}
 abbrev Has : Statement → Statement → Type 0
 Has w p = (x : Place) × At p x w
 
+deeper : {p c : Statement} {d : Part} {w : Statement} {x : Place} → At p x w → PartOf d c p → Has w c
+deeper {d = d} At.here i = (d ∷ [], At.inside i At.here)
+deeper (At.inside {d = b} j u) i = let v = deeper u i in (b ∷ v.0, At.inside j v.1)
+
 at_part : {w p c : Statement} {d : Part} {x : Place} → At p x w → PartOf d c p → Has w c
-at_part {d = d} At.here i = (d ∷ [], At.inside i At.here)
-at_part (At.inside {d = b} j u) i = let v = at_part u i in (b ∷ v.0, At.inside j v.1)
+at_part u i = deeper u i
 
 -- ---- bytes that stand in bs from offset a on
 module _ (bs : List ℕ) where
