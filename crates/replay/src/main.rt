@@ -3,21 +3,23 @@
 //
 // The line is the library's; this program only reads and writes.
 #![tactic(auto)]
+#![tactic(auto)]
 
-use libc::{STDIN_FILENO, STDOUT_FILENO};
+use input::{read_full, zeros};
+use std::io;
 
 // One byte more than a file may have, so that a longer one is seen.
 const ROOM: usize = 4194305;
 
-fn print_verdict(file: &[u8]) {
+fn print_verdict(rt: &impl Print, file: &[u8]) -> io::Result<()> {
     let line = replay_lines::verdict(file);
     let bytes = line.bytes;
     let from = line.from;
-    io::write_all(STDOUT_FILENO, &bytes[from..]);
+    rt.write_all(&bytes[from..])
 }
 
-fn main() {
-    let mut space = [0u8; ROOM];
-    let count = io::read_full(STDIN_FILENO, &mut space);
-    print_verdict(&space[..count]);
+fn main(rt: HostRuntime) -> io::Result<()> {
+    let mut space: [u8; ROOM] = zeros();
+    let count = read_full(&mut rt.stdin(), &mut space)?;
+    print_verdict(&rt, &space[..count])
 }

@@ -2,9 +2,11 @@
 //
 // The listing is the library's, piece by piece; this program only reads, writes and counts its turns.
 #![tactic(auto)]
+#![tactic(auto)]
 
-use libc::{STDIN_FILENO, STDOUT_FILENO};
+use input::{read_full, zeros};
 use listing::Run;
+use std::io;
 
 // One byte more than a file may have, so that a longer one is seen.
 const ROOM: usize = 65537;
@@ -13,26 +15,27 @@ const ROOM: usize = 65537;
 const TURNS: usize = 65539;
 
 // Writes the next piece, and answers the run after it.
-fn print_piece(file: &[u8], run: Run) -> Run {
+fn print_piece(rt: &impl Print, file: &[u8], run: Run) -> io::Result<Run> {
     let piece = listing::turn(file, run);
     let line = piece.line;
     let bytes = line.bytes;
     let from = line.from;
-    io::write_all(STDOUT_FILENO, &bytes[from..]);
-    piece.run
+    rt.write_all(&bytes[from..])?;
+    Ok(piece.run)
 }
 
-fn print_listing(file: &[u8]) {
+fn print_listing(rt: &impl Print, file: &[u8]) -> io::Result<()> {
     let mut run = listing::start();
     let mut turns = TURNS;
     while turns > 0 && !listing::is_finished(run) {
-        run = print_piece(file, run);
+        run = print_piece(rt, file, run)?;
         turns -= 1;
     }
+    Ok(())
 }
 
-fn main() {
-    let mut space = [0u8; ROOM];
-    let count = io::read_full(STDIN_FILENO, &mut space);
-    print_listing(&space[..count]);
+fn main(rt: HostRuntime) -> io::Result<()> {
+    let mut space: [u8; ROOM] = zeros();
+    let count = read_full(&mut rt.stdin(), &mut space)?;
+    print_listing(&rt, &space[..count])
 }

@@ -3,42 +3,41 @@
 //
 // What is written is the library's; this program only reads and writes.
 #![tactic(auto)]
+#![tactic(auto)]
 
-use libc::{STDIN_FILENO, STDOUT_FILENO};
+use input::{read_full, zeros};
 use lines::Line;
+use std::io;
 use unroll_files::Answer;
 
 // One byte more than a file may have, so that a longer one is seen.
 const ROOM: usize = 65537;
 
-fn print_line(line: Line) {
+fn print_line(rt: &impl Print, line: Line) -> io::Result<()> {
     let bytes = line.bytes;
     let from = line.from;
-    io::write_all(
-        STDOUT_FILENO,
-        numbers::part(&bytes, from, lines::LINE_LENGTH),
-    );
+    rt.write_all(numbers::part(&bytes, from, lines::LINE_LENGTH))
 }
 
 // The length, the result and what stood behind the sequence.
-fn print_file(file: &[u8], res: &[u8], count: usize) {
+fn print_file(rt: &impl Print, file: &[u8], res: &[u8], count: usize) -> io::Result<()> {
     let length = unroll_files::length_bytes(count);
-    io::write_all(STDOUT_FILENO, &length);
-    io::write_all(STDOUT_FILENO, numbers::part(res, 0, count));
-    io::write_all(STDOUT_FILENO, files::behind_sequence(file));
+    rt.write_all(&length)?;
+    rt.write_all(numbers::part(res, 0, count))?;
+    rt.write_all(files::behind_sequence(file))
 }
 
-fn print_unrolled(file: &[u8]) {
-    let mut result = [0u8; limits::MAX_BYTES];
+fn print_unrolled(rt: &impl Print, file: &[u8]) -> io::Result<()> {
+    let mut result: [u8; limits::MAX_BYTES] = zeros();
     match unroll_files::unroll(file, &mut result) {
-        Answer::Cut => print_line(lines::cut()),
-        Answer::Refused(number) => print_line(lines::refusal(number)),
-        Answer::Unrolled(count) => print_file(file, &result, count),
+        Answer::Cut => print_line(rt, lines::cut()),
+        Answer::Refused(number) => print_line(rt, lines::refusal(number)),
+        Answer::Unrolled(count) => print_file(rt, file, &result, count),
     }
 }
 
-fn main() {
-    let mut space = [0u8; ROOM];
-    let count = io::read_full(STDIN_FILENO, &mut space);
-    print_unrolled(numbers::part(&space, 0, count));
+fn main(rt: HostRuntime) -> io::Result<()> {
+    let mut space: [u8; ROOM] = zeros();
+    let count = read_full(&mut rt.stdin(), &mut space)?;
+    print_unrolled(&rt, numbers::part(&space, 0, count))
 }

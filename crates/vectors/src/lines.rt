@@ -4,7 +4,8 @@ ghost use Rattle.std.specs.Prelude.{◌≤◌, length};
 use crate::ticks::run;
 use crate::vector::{Vector, fresh, malformed, spelled};
 use records::{ANSWER_LENGTH, STATE_LENGTH};
-use vectors_notation::{NONE, ROOM, append, print, repeat, word, zeros};
+use std::io;
+use vectors_notation::{NONE, ROOM, append, print, repeat, scan, word, zeros};
 
 // The read-back set that the line names, for the calls after it.
 fn declared(line: &[u8], from: usize, vector: Vector) -> Vector {
@@ -23,67 +24,67 @@ fn declared(line: &[u8], from: usize, vector: Vector) -> Vector {
 }
 
 // A machine from the state record that the line names before a colon.
-fn resume(line: &[u8], from: usize, vector: Vector) -> Vector
+fn resume(rt: &impl Print, line: &[u8], from: usize, vector: Vector) -> io::Result<Vector>
     requires { from ≤ length line.now }
 {
-    let colon = bytes::scan::find(line, from, line.len(), b':');
+    let colon = scan::find(line, from, line.len(), b':');
     let record = append(&line[0..colon], from, zeros(0));
     if ROOM < record.count {
-        return malformed();
+        return Ok(malformed());
     }
     if colon == line.len() {
-        return malformed();
+        return Ok(malformed());
     }
-    run(line, colon + 1, vector, record, ANSWER_LENGTH)
+    run(rt, line, colon + 1, vector, record, ANSWER_LENGTH)
 }
 
 // The vector after an indented line: the first letter of its word tells what it gives.
-fn indented(line: &[u8], vector: Vector) -> Vector {
+fn indented(rt: &impl Print, line: &[u8], vector: Vector) -> io::Result<Vector> {
     if line.len() < 3 {
-        return malformed();
+        return Ok(malformed());
     }
-    let at = bytes::scan::find(line, 2, line.len(), b' ');
+    let at = scan::find(line, 2, line.len(), b' ');
     let sequence = vector.sequence;
     match line[2] {
-        b'b' => spelled(vector, append(line, at, sequence)),
-        b't' => spelled(vector, repeat(line, at, sequence)),
-        b'd' => declared(line, at, vector),
-        b'f' => resume(line, at, vector),
-        b'r' => run(line, at, vector, zeros(STATE_LENGTH), ANSWER_LENGTH),
-        b's' => run(line, at, vector, zeros(STATE_LENGTH), ANSWER_LENGTH - 1),
-        b'l' => run(line, at, vector, zeros(STATE_LENGTH), ANSWER_LENGTH + 1),
-        _ => malformed(),
+        b'b' => Ok(spelled(vector, append(line, at, sequence))),
+        b't' => Ok(spelled(vector, repeat(line, at, sequence))),
+        b'd' => Ok(declared(line, at, vector)),
+        b'f' => resume(rt, line, at, vector),
+        b'r' => run(rt, line, at, vector, zeros(STATE_LENGTH), ANSWER_LENGTH),
+        b's' => run(rt, line, at, vector, zeros(STATE_LENGTH), ANSWER_LENGTH - 1),
+        b'l' => run(rt, line, at, vector, zeros(STATE_LENGTH), ANSWER_LENGTH + 1),
+        _ => Ok(malformed()),
     }
 }
 
 // The vector after a line.
-fn line(line: &[u8], vector: Vector) -> Vector {
+fn line(rt: &impl Print, line: &[u8], vector: Vector) -> io::Result<Vector> {
     if line.len() == 0 {
-        return vector;
+        return Ok(vector);
     }
     if line[0] == b'#' {
-        return vector;
+        return Ok(vector);
     }
     if line[0] == b' ' {
-        return indented(line, vector);
+        return indented(rt, line, vector);
     }
-    print::title(line);
-    fresh()
+    print::title(rt, line)?;
+    Ok(fresh())
 }
 
 // Runs the vectors of a file, up to the first line that is malformed.
-pub fn all(file: &[u8]) {
+pub fn all(rt: &impl Print, file: &[u8]) -> io::Result<()> {
     let mut vector = fresh();
     let mut at: usize = 0;
     let mut number: u64 = 0;
     while at < file.len() {
-        let end = bytes::scan::find(file, at, file.len(), b'\n');
-        vector = line(&file[at..end], vector);
+        let end = scan::find(file, at, file.len(), b'\n');
+        vector = line(rt, &file[at..end], vector)?;
         number += 1;
         if ROOM < vector.sequence.count {
-            print::malformed(number);
-            return;
+            return print::malformed(rt, number);
         }
         at = end + 1;
     }
+    Ok(())
 }

@@ -13,7 +13,8 @@ mod vector;
 
 ghost use Rattle.std.specs.Prelude.{◌≡◌, length};
 
-use libc::STDIN_FILENO;
+use input::{read_full, zeros};
+use std::io;
 
 // One byte more than the file may have, so that a longer one is seen.
 const ROOM: usize = 262144;
@@ -21,15 +22,14 @@ const ROOM: usize = 262144;
 fn room() -> [u8; ROOM]
     ensures { 262144 ≡ length result }
 {
-    [0; ROOM]
+    zeros()
 }
 
-fn main() {
+fn main(rt: HostRuntime) -> io::Result<()> {
     let mut space = room();
-    let count = io::read_full(STDIN_FILENO, &mut space);
+    let count = read_full(&mut rt.stdin(), &mut space)?;
     if count == ROOM {
-        vectors_notation::print::text(b"file too long\n");
-        return;
+        return vectors_notation::print::text(&rt, b"file too long\n");
     }
-    lines::all(&space[..count]);
+    lines::all(&rt, &space[..count])
 }

@@ -1,8 +1,9 @@
 // Machines that tick on given inputs, and the lines of their calls.
-ghost use Rattle.std.specs.Prelude.{◌≡◌, ◌⊎◌};
+ghost use Rattle.std.specs.Prelude.{◌≡◌, ◌⊎◌, IfOk};
 ghost use Rattle.vectors_notation.specs.Room.{holds, zeroed, malformed_count};
 
 use crate::vector::{Vector, malformed};
+use std::io;
 use vectors_notation::{Bytes, NONE, ROOM, print, word};
 
 // What stands in an answer record before a call.
@@ -42,25 +43,33 @@ fn call(
 
 // The line of a call: of its instant, or of its refusal with whether both records were kept.
 fn report(
+    rt: &impl Print,
     instant: u64,
     number: u8,
     before: &[u8; ROOM],
     state: &[u8; ROOM],
     answer: &[u8; ANSWER_ROOM],
-) {
+) -> io::Result<()> {
     if number == 0 {
-        print::instant(instant, state, answer);
-        return;
+        return print::instant(rt, instant, state, answer);
     }
-    let kept = check::same(state, before);
+    let kept = *state == *before;
     print::refusal(
+        rt,
         number as u64,
-        kept & check::same(answer, &[UNWRITTEN; ANSWER_ROOM]),
-    );
+        kept & (*answer == [UNWRITTEN; ANSWER_ROOM]),
+    )
 }
 
 // One call and its line; answers the state record after it.
-fn tick(vector: Vector, before: Bytes, answer_length: usize, instant: u64, input: u32) -> Bytes {
+fn tick(
+    rt: &impl Print,
+    vector: Vector,
+    before: Bytes,
+    answer_length: usize,
+    instant: u64,
+    input: u32,
+) -> io::Result<Bytes> {
     let sequence = vector.sequence;
     let room = sequence.room;
     let kept = before.room;
@@ -76,17 +85,24 @@ fn tick(vector: Vector, before: Bytes, answer_length: usize, instant: u64, input
         &mut answer,
         answer_length,
     );
-    report(instant, number, &kept, &state, &answer);
-    Bytes {
+    report(rt, instant, number, &kept, &state, &answer)?;
+    Ok(Bytes {
         room: state,
         count: before.count,
-    }
+    })
 }
 
 // A machine: a call for each input that the line names from `from` on. Answers the vector, or a
 // malformed one where one of them is no input.
-pub fn run(line: &[u8], from: usize, vector: Vector, record: Bytes, answer_length: usize) -> Vector
-    ensures { (result ≡ vector) ⊎ (holds result.sequence ≡ zeroed malformed_count) }
+pub fn run(
+    rt: &impl Print,
+    line: &[u8],
+    from: usize,
+    vector: Vector,
+    record: Bytes,
+    answer_length: usize,
+) -> io::Result<Vector>
+    ensures { IfOk result (λ after. (after ≡ vector) ⊎ (holds after.sequence ≡ zeroed malformed_count)) }
 {
     let mut state = record;
     let mut at = from;
@@ -95,11 +111,11 @@ pub fn run(line: &[u8], from: usize, vector: Vector, record: Bytes, answer_lengt
         let word = word(line, at);
         let input = word.value;
         if NONE <= input {
-            return malformed();
+            return Ok(malformed());
         }
         instant += 1;
-        state = tick(vector, state, answer_length, instant, input as u32);
+        state = tick(rt, vector, state, answer_length, instant, input as u32)?;
         at = word.end;
     }
-    vector
+    Ok(vector)
 }

@@ -2,6 +2,7 @@
 #![tactic(auto)]
 
 pub mod print;
+pub mod scan;
 
 ghost use Rattle.std.specs.Prelude.{◌<◌, ◌≤◌, min, ◌+◌, ◌≡◌, length};
 ghost use Rattle.vectors_notation.specs.Digits.{digit_of, extended_by, number_in};
@@ -75,7 +76,7 @@ pub fn word(line: &[u8], at: usize) -> Parsed
             end: line.len(),
         };
     }
-    let end = bytes::scan::find(line, at + 1, line.len(), b' ');
+    let end = scan::find(line, at + 1, line.len(), b' ');
     Parsed {
         value: number(line, at, end, 16),
         end: end,
@@ -141,7 +142,7 @@ pub fn repeat(line: &[u8], from: usize, before: Bytes) -> Bytes
     if line.len() <= from {
         return zeros(MALFORMED);
     }
-    let end = bytes::scan::find(line, from + 1, line.len(), b' ');
+    let end = scan::find(line, from + 1, line.len(), b' ');
     let mut times = number(line, from, end, 10);
     if ROOM as u64 <= times {
         return zeros(MALFORMED);
