@@ -3,7 +3,6 @@
 //
 // The line is the library's; this program only reads and writes.
 #![tactic(auto)]
-#![tactic(auto)]
 
 use input::{read_full, zeros};
 use std::io;

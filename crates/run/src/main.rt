@@ -2,7 +2,6 @@
 //
 // The listing is the library's, piece by piece; this program only reads, writes and counts its turns.
 #![tactic(auto)]
-#![tactic(auto)]
 
 use input::{read_full, zeros};
 use listing::Run;

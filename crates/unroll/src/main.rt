@@ -3,7 +3,6 @@
 //
 // What is written is the library's; this program only reads and writes.
 #![tactic(auto)]
-#![tactic(auto)]
 
 use input::{read_full, zeros};
 use lines::Line;

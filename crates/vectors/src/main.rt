@@ -7,7 +7,7 @@
 // run with a line that says which one it is.
 #![tactic(auto)]
 
-mod lines;
+mod file_lines;
 mod ticks;
 mod vector;
 
@@ -31,5 +31,5 @@ fn main(rt: HostRuntime) -> io::Result<()> {
     if count == ROOM {
         return vectors_notation::print::text(&rt, b"file too long\n");
     }
-    lines::all(&rt, &space[..count])
+    file_lines::all(&rt, &space[..count])
 }

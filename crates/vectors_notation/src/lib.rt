@@ -13,6 +13,7 @@ ghost use Rattle.vectors_notation.specs.Room.{holds, zeroed, pushed, appended, r
 pub const NONE: u64 = 0x100000000;
 
 // The digit that a byte is, or 16.
+#[tactic(auto, unfolding(crate::specs::Digits::digit_of))]
 fn digit(byte: u8) -> u64
     ensures { result ≡ digit_of byte }
 {
@@ -24,6 +25,7 @@ fn digit(byte: u8) -> u64
 }
 
 // The number that `value` becomes with one digit more behind it; it has at most eight digits.
+#[tactic(auto, unfolding(crate::specs::Digits::extended_by))]
 fn extended(value: u64, byte: u8, base: u64) -> u64
     requires { base ≤ 16 }
     ensures { result ≡ extended_by base value byte }
@@ -96,6 +98,7 @@ pub struct Bytes {
     pub count: usize,
 }
 
+#[tactic(auto, unfolding(crate::specs::Room::zeroed))]
 pub fn zeros(count: usize) -> Bytes
     ensures { holds result ≡ zeroed count }
 {

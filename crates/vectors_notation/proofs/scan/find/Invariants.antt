@@ -1,4 +1,4 @@
-use Rattle.std.proofs.Common.{◌-◌, ◌≤◌, ◌+◌, ◌≡◌, length, slice_range}
+use Rattle.std.proofs.Common.{◌-◌, ◌≤◌, ◌+◌, ◌≡◌, slice_range}
 use Rattle.vectors_notation.specs.Scan.{index_of}
 use Rattle.vectors_notation.proofs.scan.find.Given as goal
 
