@@ -18,7 +18,7 @@ OPTIMIZED = $(WARNED) -O2 -falign-functions=64
 TIMED = $(OPTIMIZED) -DBUILT_BY='"$(OPTIMIZED)"'
 CARGO_WORDS = --release --offline --quiet --target-dir target/cargo --manifest-path
 CARGO = cargo run $(CARGO_WORDS)
-SOURCES := crates.txt $(shell find crates -name '*.rt' -o -name '*.antt')
+SOURCES := crates.txt $(shell find crates -name out -prune -o \( -name '*.rt' -o -name '*.antt' \) -print)
 
 # `make install` puts the files below $(DESTDIR)$(PREFIX), and the pkg-config file names $(PREFIX).
 PREFIX ?= /usr/local
@@ -58,7 +58,7 @@ unroll: $(UNROLL_PROGRAM) # shows the commands of a shipped example, and those w
 replay: $(REPLAY_PROGRAM) # replays a recording of a shipped example; RECORDING=file, BAY as above
 	@head -c $$((6 + $$(od -An -tu2 -N2 '$(BAY)'))) '$(BAY)' | cat - '$(RECORDING)' | $(REPLAY_PROGRAM)
 
-vectors-diff: # shows each line that the vectors, as built last, print otherwise than crates/vectors/stdout has it
+vectors-diff: target/bin/vectors # shows each line that the vectors print otherwise than crates/vectors/stdout has it
 	@target/bin/vectors < crates/vectors/stdin | diff -U 1 -F '^[^ ]' --label expected --label printed crates/vectors/stdout -
 
 test: # proves everything and runs all tests: the gate
@@ -83,7 +83,7 @@ uninstall: # takes away what make install has put below PREFIX; DESTDIR as above
 	@for folder in '$(EXAMPLES)' share/intake; do rmdir '$(DESTDIR)$(PREFIX)'/$$folder 2> /dev/null || true; done
 
 clean: # takes away all that was built, proofs too
-	rm -rf target
+	rm -rf target crates/*/out
 
 certificate: # writes docs/CERTIFICATE.md from the last run of the gate
 	tools/certificate
@@ -271,7 +271,7 @@ bench-run: $(RUN_PROGRAM) # times the run program on its greatest input, for som
 	@tail -n 2 target/bench/greatest.txt
 
 target/staticlib/libintake.a: $(SOURCES)
-	@tools/progress rt staticlib intake
+	@tools/progress tools/archive
 
 # In this folder the pkg-config file finds the others beside itself, wherever the folder goes.
 target/lib/SHA256SUMS: target/staticlib/libintake.a include/intake.h include/intake_store.h include/intake.pc.in Makefile
@@ -292,7 +292,8 @@ target/plain/libintake.a: $(foreach part, $(PLAIN_PARTS), bench/$(part).c bench/
 	for part in $(PLAIN_PARTS); do $(OPTIMIZED) $(PLAIN_NAMES) -c bench/$$part.c -o target/plain/$$part.o || exit 1; done
 	ar rcs $@ $(PLAIN_PARTS:%=target/plain/%.o)
 
-# A crate that is proved already is not built again, so the program may keep its time.
-target/bin/run target/bin/unroll target/bin/replay: target/bin/%: $(SOURCES)
-	@tools/progress rt check $*
-	@touch -c $@
+# 'rt run' proves and builds, and then runs, here on no input; what it builds it leaves in the crate's out/.
+target/bin/run target/bin/unroll target/bin/replay target/bin/vectors: target/bin/%: $(SOURCES)
+	@tools/progress rt run $*
+	@mkdir -p target/bin
+	@cp crates/$*/out/$* $@

@@ -1,8 +1,8 @@
 #!/usr/bin/env python3
 """Builds the archive once more, in another folder, and compares the bytes with those of target/staticlib/libintake.a.
 
-The copy has the sources and the proved libraries below intake, so intake alone is proved again and compiled. The last line
-is 'N passed, M failed'.
+The copy has the sources and, where rt ci has left them, the proved libraries below intake, so intake alone is proved again and compiled. The
+last line is 'N passed, M failed'.
 """
 import shutil
 import subprocess
@@ -14,28 +14,12 @@ ROOT = Path(__file__).resolve().parent.parent
 ARCHIVE = "target/staticlib/libintake.a"
 
 
-def below(name):
-    """The repository's crates that a crate reaches, by crates.txt."""
-    lines = (ROOT / "crates.txt").read_text(encoding="utf-8").splitlines()
-    needs = {line.split(":")[0].strip(): line.split(":")[1].split() for line in lines if ":" in line and line[0] != "#"}
-    reached, todo = set(), [name]
-    while todo:
-        for crate in needs[todo.pop()]:
-            if crate in needs and crate not in reached:
-                reached.add(crate)
-                todo.append(crate)
-    return reached
-
-
 def build(folder):
-    """What rt says of the build in the folder."""
+    """What tools/archive says of the build in the folder, which is the top of a repository."""
+    (folder / ".git").mkdir()
     shutil.copy(ROOT / "crates.txt", folder)
-    shutil.copytree(ROOT / "crates", folder / "crates")
-    (folder / "target/stamp").mkdir(parents=True)
-    for crate in below("intake"):
-        shutil.copytree(ROOT / f"target/rlib/{crate}.rlib", folder / f"target/rlib/{crate}.rlib")
-        shutil.copy(ROOT / f"target/stamp/{crate}", folder / "target/stamp")
-    return subprocess.run(["rt", "staticlib", "intake"], cwd=folder, capture_output=True, text=True, check=False)
+    shutil.copytree(ROOT / "crates", folder / "crates", ignore=lambda at, names: [name for name in names if Path(at).name == "out" and name != "rlib"])
+    return subprocess.run([ROOT / "tools/archive", folder], capture_output=True, text=True, check=False)
 
 
 def main():
