@@ -105,10 +105,10 @@ def commands(page):
 
 def ranges(page):
     known = limits()
-    most = {"label": (0, known["labelCount"] - 1), "signal": (0, known["signalCount"] - 1), "exit": (1, known["maxExit"]),
-            "litres, a whole number": (0, known["litresLimit"]), "bytes of a sequence": (1, known["maxBytes"]),
-            "depth, the outermost command being 1": (1, known["maxDepth"]),
-            "signal commands around a command, read-back signals counted": (0, known["maxSignals"])}
+    most = {"label": (0, known["label_count"] - 1), "signal": (0, known["signal_count"] - 1), "exit": (1, known["max_exit"]),
+            "litres, a whole number": (0, known["litres_limit"]), "bytes of a sequence": (1, known["max_bytes"]),
+            "depth, the outermost command being 1": (1, known["max_depth"]),
+            "signal commands around a command, read-back signals counted": (0, known["max_signals"])}
     given = {row[0]: (number(row[1]), number(row[2])) for row in rows(page, "Limit")}
     if given != most:
         yield f"the limits: {given}, not {most}"
@@ -154,7 +154,7 @@ def records(page):
 
 def codes(page):
     known, phase = values("code"), values("phase")
-    most = limits()["maxExit"] + 1  # an exit n that no try catches has the code n + 1
+    most = limits()["max_exit"] + 1  # an exit n that no try catches has the code n + 1
     given = [[row[0], row[1].split()[0], number(row[2])] for row in rows(page, "Code")]
     over, waiting = phase["PHASE_OVER"], phase["PHASE_WAITING"]
     if given != [[str(known["ENDED"]), "ended", over], [str(known["WAITING"]), "waiting", waiting],
@@ -207,7 +207,7 @@ def box(page):
     if given != {name: int(value) for name, value in tested}:
         yield f"the fields of a slot: {given}"
     known, sizes = limits(), {row[0]: number(row[2]) for row in table}
-    fields = {"sequence": known["maxBytes"], "read-back": known["signalBytes"], "state": values("state")["STATE_LENGTH"]}
+    fields = {"sequence": known["max_bytes"], "read-back": known["signal_bytes"], "state": values("state")["STATE_LENGTH"]}
     if any(sizes.get(name) != size for name, size in fields.items()):
         yield f"the bytes of a slot: {sizes}"
     yield from positions(page, sizes.get("positions"))
@@ -215,7 +215,7 @@ def box(page):
 
 def positions(page, space):
     """The entry of a position, which the table has as often as the header says."""
-    count, name, state = limits()["maxPositions"], limits()["nameBytes"], values("state")["STATE_LENGTH"]
+    count, name, state = limits()["max_positions"], limits()["name_bytes"], values("state")["STATE_LENGTH"]
     given = [[row[0], number(row[1] or "0"), number(row[2])] for row in rows(page, "Entry")]
     if given != [["name", 0, name], ["state", name, state], ["whole", 0, name + state]]:
         yield f"an entry of a position: {given}"
@@ -239,10 +239,10 @@ def calls(page):
     if not told["ABOVE_CEILING"][1].endswith(f"more than {known['SHARED_CEILING']:,}"):
         yield "the shared ceiling in the header's comment"
     limit, ledger = known["FARM_LIMIT"], values("ledger")
-    if limit != limits()["litresLimit"] or any(not told[name][1].endswith(f" {limit:,}") for name in ("BAD_LITRES", "ABOVE_FARM_LIMIT")):
+    if limit != limits()["litres_limit"] or any(not told[name][1].endswith(f" {limit:,}") for name in ("BAD_LITRES", "ABOVE_FARM_LIMIT")):
         yield "the limit of litres in the header's comments"
     space = {row[0]: row[2] for row in rows(page, "Slot")}["ledger"]
-    if known["FARM_COUNT"] != limits()["signalCount"] or number(space) != ledger["LEDGER_FARMS_LENGTH"] != 4 * known["FARM_COUNT"]:
+    if known["FARM_COUNT"] != limits()["signal_count"] or number(space) != ledger["LEDGER_FARMS_LENGTH"] != 4 * known["FARM_COUNT"]:
         yield "the farms of a ledger"
 
 
@@ -252,7 +252,7 @@ def unrolled(page):
     given = [f"0: {original.strip('`')} | {result.strip('`')}" for original, result in rows(page, "Original")]
     if given != [line for line in own.splitlines() if line.startswith("0: ")]:
         yield f"the examples of loops written out: {given}"
-    if defines()["RESULT_LENGTH"] != limits()["maxBytes"] or f"lent buffer of {limits()['maxBytes']:,} bytes" not in page:
+    if defines()["RESULT_LENGTH"] != limits()["max_bytes"] or f"lent buffer of {limits()['max_bytes']:,} bytes" not in page:
         yield "the length of a result"
 
 
@@ -261,20 +261,20 @@ def run_file(page):
     given = [row[1] for row in rows(page, "Part")]
     if given != [str(files.LENGTH_BYTES), "as many", str(files.READ_BACK_BYTES), str(files.INPUT_BYTES)]:
         yield f"the run file: {given}"
-    most = int(re.search(r"^maxFile = (\d+)$", text_of("crates/spec_programs/specs/File.antt"), re.M)[1])
+    most = int(re.search(r"^max_file = (\d+)$", text_of("crates/spec_programs/specs/File.antt"), re.M)[1])
     if f"at most {most:,} bytes" not in page or most != files.MAX_FILE:
         yield "the length of a run file"
     fields = rows(page, "Field")
     if " ".join(row[0] for row in fields) != listings.HEADER:
         yield "the heading of a listing"
-    digits = {"emitted": 2 * known["signalBytes"], "labels": 2 * known["labelBytes"]}
+    digits = {"emitted": 2 * known["signal_bytes"], "labels": 2 * known["label_bytes"]}
     if any(row[1] != (f"{digits[row[0]]} digits" if row[0] in digits else "decimal") for row in fields):
         yield f"the digits of a listing: {digits}"
 
 
 def recording(page):
     """What the replay program prints, and how much it reads."""
-    words = {"accepted": "acceptance", "differs at": "difference", "refused": "refusal", "input cut": "inputCut"}
+    words = {"accepted": "acceptance", "differs at": "difference", "refused": "refusal", "input cut": "input_cut"}
     if [row[0].split("`")[1] for row in rows(page, "Line")] != list(words):
         yield "the lines of the replay program"
     spelled = text_of("crates/spec_programs/specs/Verdict.antt") + text_of("crates/spec_programs/specs/Text.antt")
@@ -282,7 +282,7 @@ def recording(page):
         spelling = re.search(rf"^{name}(?: \w+)? =\s+\(?((?:0x\w\w|space|[∷\s])+)", spelled, re.M)[1].replace("space", "0x20")
         if bytes(int(byte, 16) for byte in re.findall(r"0x(\w\w)", spelling)).decode().rstrip() != word:
             yield f"the spelling of {word}"
-    most = int(re.search(r"^maxFile = (\d+)$", text_of("crates/spec_programs/specs/Verdict.antt"), re.M)[1])
+    most = int(re.search(r"^max_file = (\d+)$", text_of("crates/spec_programs/specs/Verdict.antt"), re.M)[1])
     if f"at most {most:,} bytes in all" not in page:
         yield "the length of a file with a recording"
 

@@ -74,7 +74,7 @@ says what it means, and what it leaves open. The page is committed after the run
   year, across comings back to a position, takings out, admissions and calls answered 19; it is at most 16,777,216 litres.
 - The ledger's total is a whole number within 496 litres of the exact sum of the 32 farms' totals.
 
-It is of lists whose accepted sequences have no setpause; `certificate-by-labels` says the same of every list, for what the machine that keeps a label
+It is of lists whose accepted sequences have no setpause; `certificate_by_labels` says the same of every list, for what the machine that keeps a label
 set tells and delivers. Sets and saved names are of 32 bits, as the arguments' types have it. An instant that is wrong delivers nothing. A call answered 19 is no instant: its litres are in no ledger, and the host must switch
 the outputs off, the pump first. That a litre on a signal is a litre in the tank is the plant's part, and no theorem's.
 

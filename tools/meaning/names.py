@@ -12,7 +12,7 @@ from meaning.texts import CLOSING, MARKS, OPENING, entries, plain_names, upto
 WORDS = {"data", "record", "deriving", "module", "where", "use", "mod", "pub", "package", "using", "open", "as", "unfoldable", "abbrev",
          "axiom", "unfold", "unfolding", "ruleset", "mutual", "infix", "infixl", "infixr", "elim", "let", "in", "do", "λ", "∀", "Type",
          "→", "=", ":", "↦", "←", "_", "×", "⊔", "[", "]", "@", ";", ","}
-PRELUDE = {"Unit", "tt", "⊥", "absurd", "¬_", "Dec", "yes", "no", "Id", "J", "Path", "refl", "IsProp", "IsSet", "Discrete", "omega",
+PRELUDE = {"Unit", "tt", "⊥", "absurd", "¬◌", "Dec", "yes", "no", "Id", "J", "Path", "refl", "IsProp", "IsSet", "Discrete", "omega",
            "arith", "search", "simp", "rw", "cc"}
 NUMERAL = re.compile(r"\d[\d_]*|0x[\da-fA-F_]+|0b[01_]+|0o[0-7_]+")
 
@@ -32,7 +32,7 @@ class Target:
 
 def parts_of(name):
     """The words of an operator, as they stand between its arguments."""
-    return [part for part in name.split("_") if part] if "_" in name and name != "_" else []
+    return [part for part in name.split("◌") if part] if "◌" in name and name != "◌" else []
 
 
 class Scope:
@@ -51,7 +51,7 @@ class Scope:
 
     def whole(self, word):
         """The name that a word stands for: itself, or the operator that it is a part of."""
-        bare = word.replace("_", "") if "_" in word else word
+        bare = word.replace("◌", "") if "◌" in word else word
         for name in (word, self.operators.get(word), self.operators.get(bare), self.prelude.get(bare)):
             if name in self.own or name in self.brought or name in PRELUDE:
                 return name

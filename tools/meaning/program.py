@@ -1,6 +1,6 @@
 """Prints the definitions that contracts and theorems mean.
 
-  tools/cone NAME..    what each name means: an export (intake_tick), a theorem (box-on-paper) or a definition (Certificate);
+  tools/cone NAME..    what each name means: an export (intake_tick), a theorem (box_on_paper) or a definition (Certificate);
                        a name that several files declare stands behind its file (Machines.run, crates/esterel/specs/Machines.run)
   tools/cone --all     all exports, and all theorems that the rows of docs/DEMANDS.md and docs/demands cite: the whole set
   tools/cone --files   each file of specs: how many of its lines are in the whole set, and which definitions are not

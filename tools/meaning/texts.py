@@ -162,7 +162,7 @@ def owner_of(clause, items):
     """The declaration whose name stands on the left of a clause: in front, or as an operator between its arguments."""
     left = [token.text for token in clause[: upto(clause, "=")]]
     for item in reversed(items):
-        if left[:1] == [item.name] or "_" in item.name and set(item.name.split("_")) - {""} <= set(left):
+        if left[:1] == [item.name] or "◌" in item.name and set(item.name.split("◌")) - {""} <= set(left):
             return item
     return None
 

@@ -1,7 +1,7 @@
 """The files of a repository by module, and what the paths of names in them mean.
 
-Crates are those of crates.txt. The module Rattle·c.specs.X, or Rattle·c·specs.specs.X inside c, is crates/c/specs/X.antt; every other
-library is of the toolchain, and of it only the names are known.
+Crates are those of crates.txt. The module Rattle.c.specs.X is crates/c/specs/X.antt; every other library is of the toolchain, and of it
+only the names are known.
 """
 import re
 from functools import lru_cache
@@ -11,10 +11,10 @@ from meaning.names import Scope, Target
 from meaning.texts import Item, read, tokens_of
 
 LIST = "crates.txt"
-MODULE = re.compile(r"Rattle·([^.·]+)(?:·\w+)?\.(specs|proofs)\.(.+)")
-EXPORT = re.compile(r"^#\[no_mangle\]\n(pub extern \"C\" fn (\w+)\(.*?)^\{$", re.M | re.S)
-DECLARED = re.compile(r"crates/(\w+)/specs/declared/(\w+)(?:/the-variants)?\.antt")
-CLAUSE = re.compile(r"\b(?:requires|ensures)\b(?: \w+)? \{(.*?)⌝ ?\}", re.S)
+MODULE = re.compile(r"Rattle\.(\w+)\.(specs|proofs)\.(.+)")
+EXPORT = re.compile(r"^#\[unsafe\(no_mangle\)\]\n(pub extern \"C\" fn (\w+)\(.*?)^\{$", re.M | re.S)
+DECLARED = re.compile(r"crates/(\w+)/specs/declared/(\w+)(?:/TheVariants)?\.antt")
+CLAUSE = re.compile(r"^    (?:requires|ensures)\b(?: \w+)? \{(.*?)\}(?=\n    (?:requires|ensures)\b|\n*\Z)", re.M | re.S)
 
 
 class Missing(Exception):
@@ -25,7 +25,7 @@ class Tree:
     def __init__(self, root):
         self.root = Path(root)
         listed = (self.root / LIST).read_text(encoding="utf-8")
-        self.crates = re.findall(r"^(\w+):", listed, re.M)
+        self.crates = re.findall(r"^(\w+)(?: staticlib)?:", listed, re.M)
         self.sources, self.scopes = {}, {}
 
     # ---- files
@@ -62,7 +62,8 @@ class Tree:
     def path_of(self, module):
         """The file of a module, or None if it is a library's."""
         found = MODULE.fullmatch(module)
-        return f"crates/{found[1]}/{found[2]}/{found[3].replace('.', '/')}.antt" if found else None
+        ours = found and found[1] in self.crates
+        return f"crates/{found[1]}/{found[2]}/{found[3].replace('.', '/')}.antt" if ours else None
 
     # ---- names
 
