@@ -41,8 +41,8 @@ MADE = {
     "crates.txt": "# first\nbase:\nuser: base\n\n# second\nexport: base user\n",
     "crates/base/specs/Lib.antt": "pub mod Shapes\npub mod Turns\n",
     "crates/base/specs/Shapes.antt": """-- Shapes. A text in a comment, size and all, is no use of a name.
-use Prim.Native.Nat.{ℕ, zero, suc, _+_}
-use mathlib.Core.Path.{_≡_}
+use Rattle.std.specs.Prelude.{ℕ, zero, suc, ◌+◌}
+use Rattle.std.specs.Prelude.{◌≡◌}
 
 abbrev pub size : ℕ
 size = 3
@@ -68,8 +68,8 @@ pub record Box (wide : ℕ) : Type 0 where
   pub size : ℕ
   pub fits : size ≡ wide
 
-abbrev pub _⊕_ : ℕ → ℕ → ℕ
-_⊕_ a b = a + b
+abbrev pub ◌⊕◌ : ℕ → ℕ → ℕ
+◌⊕◌ a b = a + b
 
 -- bound names hide declared ones: in a pattern, a λ, a let and a binder
 abbrev pub hidden : (size : ℕ) → ℕ
@@ -85,7 +85,7 @@ abbrev pub letted : ℕ
 letted = let size = other in size
 
 abbrev pub whole : (n : ℕ) (b : Box n) → ℕ
-whole n b = b .size
+whole n b = b.size
 
 abbrev pub drawn : Shape → ℕ
 drawn Shape.round = size
@@ -102,9 +102,9 @@ sized = lambda
     inner : other ≡ 4
     inner = inner
 """,
-    "crates/base/specs/Turns.antt": """use Prim.Native.Nat.{ℕ, zero, suc}
-use mathlib.Core.Bool.{Bool, true, false}
-use Rattle·base·specs.specs.Shapes as Shapes
+    "crates/base/specs/Turns.antt": """use Rattle.std.specs.Prelude.{ℕ, zero, suc}
+use Rattle.std.specs.Prelude.{Bool, true, false}
+use Rattle.base.specs.Shapes as Shapes
 
 unfoldable mutual
   pub even : ℕ → Bool
@@ -126,11 +126,11 @@ either true = Shapes.other
 either false = 0
 """,
     "crates/user/specs/Lib.antt": "pub mod Claim\n",
-    "crates/user/specs/Claim.antt": """use Prim.Native.Nat.{ℕ}
-use mathlib.Core.Path.{_≡_}
-use Rattle·base.specs.Shapes.{size, Shape, edged, hidden as veiled}
-use Rattle·base.specs.Turns.{even}
-use Rattle·user·specs.specs.declared.Pair.{Pair}
+    "crates/user/specs/Claim.antt": """use Rattle.std.specs.Prelude.{ℕ}
+use Rattle.std.specs.Prelude.{◌≡◌}
+use Rattle.base.specs.Shapes.{size, Shape, edged, hidden as veiled}
+use Rattle.base.specs.Turns.{even}
+use Rattle.user.specs.declared.Pair.{Pair}
 
 pub record Claim (f : ℕ → ℕ) : Type 0 where
   pub small : f size ≡ size
@@ -140,38 +140,38 @@ abbrev pub shape : Shape
 shape = edged 5
 
 abbrev pub first : Pair → ℕ
-first p = p .left
+first p = p.left
 
 abbrev pub idle : ℕ
 idle = 0
 """,
     "crates/user/src/lib.rt": "pub struct Pair {\n    pub left: u32,\n    // in lower case\n    pub right: u32,\n}\n",
     "crates/user/proofs/Lib.antt": "pub mod Theorems\n",
-    "crates/user/proofs/Theorems.antt": """use Prim.Native.Nat.{ℕ}
-use Rattle·base.specs.Shapes.{hidden, lambda}
-use Rattle·user.specs.Claim.{Claim, idle}
+    "crates/user/proofs/Theorems.antt": """use Rattle.std.specs.Prelude.{ℕ}
+use Rattle.base.specs.Shapes.{hidden, lambda}
+use Rattle.user.specs.Claim.{Claim, idle}
 
 pub claimed : Claim hidden
 claimed = lambda idle
 """,
-    "crates/export/src/lib.rt": """ghost use mathlib.Core.Path.{_≡_};
-ghost use Rattle·base.specs.Shapes.{
+    "crates/export/src/lib.rt": """ghost use Rattle.std.specs.Prelude.{◌≡◌};
+ghost use Rattle.base.specs.Shapes.{
     size, drawn,
 };
-ghost use Rattle·base.specs.Turns as Turns;
+ghost use Rattle.base.specs.Turns as Turns;
 use limits::MAX;
 
 // What a host calls.
-#[no_mangle]
+#[unsafe(no_mangle)]
 pub extern "C" fn made_call(size: u32, at: &[u8]) -> u8
-    requires { ⌜ Turns.even size ≡ Turns.even size ⌝ }
-    ensures { λ r. ⌜ r ≡ drawn (now (at .entry)) ⌝ }
+    requires { Turns.even size ≡ Turns.even size }
+    ensures { result ≡ drawn at.now }
 {
     drawn(size)
 }
 
 pub fn inner(x: u32) -> u8
-    ensures { λ r. ⌜ r ≡ size ⌝ }
+    ensures { result ≡ size }
 {
     x
 }
@@ -185,7 +185,7 @@ pub fn inner(x: u32) -> u8
 }
 EXPECTED = {
     "size": "size",
-    "hidden": "hidden _⊕_",
+    "hidden": "hidden ◌⊕◌",
     "lambda": "lambda",
     "bound": "bound other",
     "letted": "letted other",
@@ -198,10 +198,10 @@ EXPECTED = {
     "begun": "begun module-_ Shape drawn size",
     "again": "again begun module-_ Shape drawn size",
     "either": "either other",
-    "Claim": "Claim size hidden _⊕_",
+    "Claim": "Claim size hidden ◌⊕◌",
     "shape": "shape Shape",
     "first": "first Pair",
-    "claimed": "Claim size hidden _⊕_",
+    "claimed": "Claim size hidden ◌⊕◌",
     "made_call": "drawn Shape size even odd",
 }
 LINES = {"size": 2, "drawn": 5 + 2 - 2 + 3, "Claim": 3 + 2 + 2 + 2, "even": 3 + 3, "first": 2 + 4}
@@ -227,14 +227,14 @@ def made_cones():
             found = lines_of(cones.cone([cones.root(name)]).items)
             expect(found == wanted, f"the lines of {name}: {found}, not {wanted}")
         kit = cones.cone([cones.root("drawn")]).kit
-        expect(kit == {("Prim.Native.Nat", "ℕ")}, f"the names of libraries of drawn: {kit}")
+        expect(kit == {("Rattle.std.specs.Prelude", "ℕ")}, f"the names of libraries of drawn: {kit}")
         exports, claims = whole(cones, pages(folder), "")
         expect([root.name for root in exports] == ["made_call"] and [root.name for root in claims] == ["claimed"], "the exports and claims")
         apart = "\n## Cited, and not to be read\n\n| Theorem | Why |\n|---|---|\n| `claimed` | by hand |\n"
         expect(whole(cones, pages(folder), apart)[1] == [], "a theorem that is set apart")
         expect(refused(lambda: whole(cones, pages(folder), apart.replace("claimed", "not-cited"))), "what is set apart and not cited")
         ordered = [item.name for _, items in cones.in_order(cones.cone([*exports, *claims]).items) for item in items]
-        expect(ordered == ["size", "Shape", "_⊕_", "hidden", "drawn", "even", "odd", "Claim"], f"the order: {ordered}")
+        expect(ordered == ["size", "Shape", "◌⊕◌", "hidden", "drawn", "even", "odd", "Claim"], f"the order: {ordered}")
         fields = [token.text for token in cones.walk(cones.declared["whole"][0]).fields]
         expect(fields == ["size"], f"the fields of whole: {fields}")
 
@@ -270,9 +270,9 @@ def without(text, name):
 
 def wrong_names():
     """Names that mean nothing, or more than one thing."""
-    cases = [("use Prim.Native.Nat.{ℕ}\nabbrev pub bad : ℕ\nbad = nowhere\n", "bad", "'nowhere' means nothing there"),
-             ("use Rattle·base.specs.Shapes.{nowhere}\nabbrev pub bad : nowhere\nbad = bad\n", "bad", "declares no 'nowhere'"),
-             ("use Rattle·base.specs.Nowhere.{a}\nabbrev pub bad : a\nbad = bad\n", "bad", "there is no crates/base/specs/Nowhere.antt"),
+    cases = [("use Rattle.std.specs.Prelude.{ℕ}\nabbrev pub bad : ℕ\nbad = nowhere\n", "bad", "'nowhere' means nothing there"),
+             ("use Rattle.base.specs.Shapes.{nowhere}\nabbrev pub bad : nowhere\nbad = bad\n", "bad", "declares no 'nowhere'"),
+             ("use Rattle.base.specs.Nowhere.{a}\nabbrev pub bad : a\nbad = bad\n", "bad", "there is no crates/base/specs/Nowhere.antt"),
              ("abbrev pub size : Type 0\nsize = size\n", "size", "is declared more than once"),
              ("pub data A : Type 0 where\n  one : A\n\npub data B : Type 0 where\n  one : B\n\nabbrev pub bad : B\nbad = one\n", "bad",
               "'one' is a constructor of several types"),

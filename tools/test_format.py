@@ -318,7 +318,7 @@ def quotations(page):
     if not blocks or blocks[-1].split("\n", 1)[1] not in text_of("crates/vectors/stdin"):
         yield "the vector"
     targets = re.findall(r"^([a-z-]+):", text_of("Makefile"), re.M)
-    crates = re.findall(r"^(\w+):", text_of("crates.txt"), re.M)
+    crates = re.findall(r"^(\w+)(?: staticlib)?:", text_of("crates.txt"), re.M)
     named = re.findall(r"`rt (?:dev|check|must-fail) ([a-z_ ]+)`", page)
     yield from (f"make {target}" for target in re.findall(r"`make ([a-z-]+)`", page) if target not in targets)
     yield from (f"crate {crate}" for words in named for crate in words.split() if crate not in crates)

@@ -30,6 +30,7 @@ NO_EDIT = {"vectors"}  # a test, of which nothing is promised
 EXAMPLES = re.compile(r"Examples$|^Worked|Bays$|^FirstErrors$|^Suspended$")  # files of definitions worked by hand
 LIBRARIES = {"std", "check", "libc", "io", "os", "bytes"}  # of the toolchain
 SIGNATURE = r"^pub (?:extern \"C\" )?fn (\w+)((?:\([^\n]*|\((?:\n    [^\n]*)+\n\)[^\n]*) \{$|.*?^\{)"  # up to a body
+CLAUSE = r"^ +(requires|ensures)(?: \w+)? \{(.*?)\}(?=\n +(?:requires|ensures)\b|\s*\Z)"  # of what stands before a body
 BINDER = r"[({][^(){}:]+ : "
 DECLARED = r"^\s*(?:abbrev |unfoldable )?pub (?:data |record )?{}(?=[\s:(])"
 
@@ -116,7 +117,7 @@ def contract(name):
     texts = sources(crate) if crate in crates() else {}
     text = texts.get(file[0] if file else "lib" if "lib" in texts else "main", "")
     found = re.search(rf"^(?:pub )?(?:extern \"C\" )?fn {function}\b(.*?)^\{{", text, re.M | re.S)
-    clauses = re.findall(r"(requires|ensures) \{(.*?⌝ ?)\}", found[1], re.S) if found else []
+    clauses = re.findall(CLAUSE, found[1], re.M | re.S) if found else []
     return found and {kind: " ".join(text for word, text in clauses if word == kind) for kind in ("requires", "ensures")}
 
 
@@ -382,7 +383,7 @@ def has_premise(text):
 def supposing():
     """The functions open to other crates whose ensures has a premise, of its own or of FromOne and FromTwo."""
     for name, (head, is_open) in signatures().items():
-        told = re.findall(r"ensures (?:\w+ )?\{ λ \S+ ⌜(.*?)⌝", head, re.S)
+        told = [text for kind, text in re.findall(CLAUSE, head, re.M | re.S) if kind == "ensures"]
         if is_open and any(has_premise(text) or re.search(r"\bFrom(One|Two)\b", text) for text in told):
             yield name
 

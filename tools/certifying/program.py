@@ -53,7 +53,7 @@ def hold_to_files(gate):
     for path, value in gate.sums.items():
         if not (ROOT / path).is_file() or hashlib.sha256((ROOT / path).read_bytes()).hexdigest() != value:
             raise Refusal(f"{path} is not the file of that run: run make test")
-    listed = sorted(line.split(":")[0].strip() for line in text_of("crates.txt").splitlines() if ":" in line and not line.startswith("#"))
+    listed = sorted(line.split(":")[0].split()[0] for line in text_of("crates.txt").splitlines() if ":" in line and not line.startswith("#"))
     if listed != sorted(gate.crates):
         raise Refusal(f"{LOG}: the crates proved are not those of crates.txt")
     if gate.surroundings["interface"] != [interface()]:

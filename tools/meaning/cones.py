@@ -6,7 +6,7 @@ from functools import cached_property
 from meaning.names import Target, Walk
 from meaning.tree import Missing
 
-LOGIC = {"now", "entry", "exit", "⌜", "⌝"}  # words of a contract that Rattle's logic defines
+LOGIC = {"result"}  # words of a contract that Rattle's logic defines; now, old and new stand behind a dot
 CITED = re.compile(r"(?:(?:crates/)?(\w+)/(specs|proofs)/)?(?:([\w/]+)\.)?([^\s.:/`]+)")
 LEMMA = re.compile(r"^\s*(?:(?:abbrev|unfoldable|pub|data|record) )*(\S+) (?:[({].*)?:(?=\s)", re.M)
 STATED = "/proofs/Theorems.antt"  # where a crate states its theorems
