@@ -3,12 +3,8 @@ use mathlib.Core.Path.{sym}
 use Rattle.labels.specs.Labels.{label_set}
 use Rattle.sets.proofs.Words.{high_word as word}
 use borrow.Author.Rules.{rules}
-use Rattle.labels.proofs.high_word.Statement.{statement}
-use Rattle.labels.proofs.high_word.Tie as tie
+use Rattle.labels.proofs.high_word.Goals as goal
 
-returns : tie.Need-returns
+pub returns : goal.returns
 unfolding label_set
 returns c = sym (word word_labels _ _ (search rules))
-
-pub high-word-spec : {M : Type 1} → statement M
-high-word-spec = tie.close (tie.spec returns)

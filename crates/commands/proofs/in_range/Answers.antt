@@ -8,8 +8,7 @@ use Rattle.spec_base.specs.Limits.{signal_count}
 use Rattle.spec_sequence.specs.Commands.{Command, command_of}
 use Rattle.theory_sequence.proofs.Table.{byte_of, byte_is, command_of_byte}
 use Rattle.commands.specs.Counts.{operand_in_range}
-use Rattle.commands.proofs.in_range.Statement.{statement}
-use Rattle.commands.proofs.in_range.Tie as tie
+use Rattle.commands.proofs.in_range.Goals as goal
 
 at : {b : ℕ} (c : Command) → b ≡ byte_of c → command_of b ≡ some c
 at c e = ap command_of e ∙ command_of_byte c
@@ -36,20 +35,17 @@ others b x (some c) e n3 n1 n10 =
     let z = byte_is b c e in
     signals x c (λ h. n3 (z ∙ h)) (λ h. n1 (z ∙ h)) (λ h. n10 (z ∙ h))
 
-returns : tie.Need-returns
-returns c = rw (at Command.exit c.before.if1.true, c.if2.true)
+pub returns-then-x-eq0 : goal.returns-then-x-eq0
+returns-then-x-eq0 c = rw (at Command.exit c.if-b-eq3.true, c.if-x-eq0.true)
 
-returns-2 : tie.Need-returns-2
-returns-2 c = rw (at Command.exit c.before.if1.true, le-leb 1 c.before.before.args.x (omega (arith, c.if2.false)))
+pub returns-then-b-eq3 : goal.returns-then-b-eq3
+returns-then-b-eq3 c = rw (at Command.exit c.if-b-eq3.true, le-leb 1 c.args.x (omega (arith, c.if-x-eq0.false)))
 
-returns-3 : tie.Need-returns-3
-returns-3 c = rw (at Command.pause c.if3.true)
+pub returns-then-b-eq1 : goal.returns-then-b-eq1
+returns-then-b-eq1 c = rw (at Command.pause c.if-b-eq1.true)
 
-returns-4 : tie.Need-returns-4
-returns-4 c = rw (at Command.setpause c.if4.true)
+pub returns-then-b-eq10 : goal.returns-then-b-eq10
+returns-then-b-eq10 c = rw (at Command.setpause c.if-b-eq10.true)
 
-returns-5 : tie.Need-returns-5
-returns-5 c = others _ _ _ refl c.before.before.if1.false c.before.if3.false c.if4.false
-
-pub in-range-spec : {M : Type 1} → statement M
-in-range-spec = tie.close (tie.spec returns returns-2 returns-3 returns-4 returns-5)
+pub returns : goal.returns
+returns c = others _ _ _ refl c.if-b-eq3.false c.if-b-eq1.false c.if-b-eq10.false

@@ -3,12 +3,8 @@ use Rattle.spec_base.specs.Sets.{join}
 use Rattle.sets.proofs.Words.{words-join}
 use Rattle.labels.specs.Labels.{label_set}
 use borrow.Author.Rules.{rules}
-use Rattle.labels.proofs.union.Statement.{statement}
-use Rattle.labels.proofs.union.Tie as tie
+use Rattle.labels.proofs.union.Goals as goal
 
-returns : tie.Need-returns
+pub returns : goal.returns
 unfolding label_set join
 returns c = words-join word_labels _ _ _ _ (search rules) (search rules)
-
-pub union-spec : {M : Type 1} → statement M
-union-spec = tie.close (tie.spec returns)

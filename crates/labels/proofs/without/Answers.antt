@@ -7,20 +7,13 @@ use Rattle.sets.proofs.Widths.{difference-only}
 use Rattle.sets.proofs.Words.{words-lt, words-difference}
 use Rattle.labels.specs.Labels.{label_set}
 use borrow.Author.Rules.{rules}
-use Rattle.labels.proofs.without.Statement.{statement}
-use Rattle.labels.proofs.without.Tie as tie
+use Rattle.labels.proofs.without.Goals as goal
 
-single-requires : tie.Need-single-requires
-single-requires c κs = search rules
-
-returns : tie.Need-returns
+pub returns : goal.returns
 unfolding label_set
 returns c =
-    let a = c.before.before.before.before.before.before.before.args in
+    let a = c.args in
     let s = two_words word_labels a.s.low a.s.high in
     words-difference word_labels a.s.low a.s.high _ _ (search rules) (search rules)
-    ∙ ap (λ (x : ℕ). bit_xor s (bit_and s x)) c.before.before.before.before.before.before.single.ensures
+    ∙ ap (λ (x : ℕ). bit_xor s (bit_and s x)) c.single-t.ensures
     ∙ difference-only label_count a.i s (words-lt word_labels a.s.low a.s.high (search rules) word_labels (search rules))
-
-pub without-spec : {M : Type 1} → statement M
-without-spec = tie.close (tie.spec single-requires returns)

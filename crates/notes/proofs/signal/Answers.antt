@@ -1,0 +1,6 @@
+use Rattle.layout.specs.Notes.{note_signals}
+use Rattle.notes.proofs.signal.Goals as goal
+
+pub returns : goal.returns
+unfolding note_signals
+returns c = rw c.greater.ensures
