@@ -54,6 +54,7 @@ From r p L t H = (b : Place) (x : Statement) → Stands x b t → Origin r p L x
 
 idle_from : {r : Bool} (p : Statement) (L : ℕ) → active p L ≡ false → From r p L nothing (λ m. nowhere)
 idle_from p L n b x Stands.here = Origin.idle [] p Stands.here n refl (λ m. refl)
+idle_from p L n b x (Stands.inside i s) = elim i [ ]
 
 seq_from : {r : Bool} {p : Statement} {L : ℕ} {t u : Statement} (h : Marks → Bool) (H J : Marks → Marks) → Origin r p L (seq t u) h
     → From r p L t H → From r p L u J → From r p L (seq t u) (λ m. marks (h m) (H m) (J m))
@@ -80,6 +81,7 @@ try_from h H o f b x (Stands.inside {a = a} try₁ s) = f a x s
 held_from : {r : Bool} {p : Statement} {L s K : ℕ} {t : Statement} (h : Marks → Bool) (H : Marks → Marks)
     → Origin r p L (held s K t) h → From r p L t H → From r p L (held s K t) (λ m. marks (h m) (H m) nowhere)
 held_from h H o f b x Stands.here = o
+held_from h H o f b x (Stands.inside i s) = elim i [ ]
 held_from h H o f b x (Stands.inside_held {a = a} s) = f a x s
 
 -- by a test of activity
@@ -91,6 +93,7 @@ cond_from false H J f g = g refl
 pause_from : (r : Bool) (l L : ℕ) → From r (pause l) L nothing (λ m. marks (r && own m) nowhere nowhere)
 unfolding expand
 pause_from r l L b x Stands.here = Origin.remains [] (pause l) Stands.here refl (λ m. refl)
+pause_from r l L b x (Stands.inside i s) = elim i [ ]
 
 pub comes_from : (r : Bool) (p : Statement) (L : ℕ) → From r p L (expand p L) (carried r p L)
 unfolding carried expand active
