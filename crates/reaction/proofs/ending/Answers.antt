@@ -1,0 +1,11 @@
+use mathlib.Core.Path.{refl, ◌∙◌}
+use mathlib.Core.Option.{Option}
+use Rattle.spec_base.specs.Sets.{none}
+use Rattle.spec_language.specs.Reaction.{ended}
+use Rattle.reaction.proofs.Values.{made}
+use borrow.Author.Rules.{rules}
+use Rattle.reaction.proofs.ending.Goals as goal
+
+pub returns : goal.returns
+unfolding none
+returns c = c.made.ensures ∙ made ended Option.none 1 none 0 refl (search rules, c.empty.ensures) refl refl refl
