@@ -97,7 +97,7 @@ pub write-six-requires : goal.write-six-requires
 write-six-requires t c = let o = leaf_room c.requires Command.deliver refl c.in-12.is own_deliver in record { in_bounds = o.0; room = o.1 }
 
 pub write-two-requires-in_default : goal.write-two-requires-in_default
-write-two-requires-in_default t c = let o = other c.requires c.in_default.in_default-own.rest in record { in_bounds = o.there; room = o.room }
+write-two-requires-in_default t c = let o = other c.requires (search rules) in record { in_bounds = o.there; room = o.room }
 
 pub write-returns-in-0 : goal.write-returns-in-0
 write-returns-in-0 t c = leaf-writes c.requires Command.nothing refl c.in-0.is own_nothing c.one.ensures
@@ -127,4 +127,4 @@ pub write-returns-in-12 : goal.write-returns-in-12
 write-returns-in-12 t c = leaf-writes c.requires Command.deliver refl c.in-12.is own_deliver c.six.ensures
 
 pub write-returns-in_default : goal.write-returns-in_default
-write-returns-in_default t c = (other c.requires c.in_default.in_default-own.rest).writes c.two-in_default.ensures
+write-returns-in_default t c = (other c.requires (search rules)).writes c.two-in_default.ensures

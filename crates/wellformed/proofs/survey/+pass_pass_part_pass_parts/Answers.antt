@@ -112,7 +112,7 @@ pass-returns-in-12 t c u base p l =
     here _ _ _ _ _ _ _ p (emit _ (litres _)) (y) (deliver-step _ _ _ _ _ c.at_other-in-12.ensures _ _)
 
 pub pass-returns-in_default : goal.pass-returns-in_default
-pass-returns-in_default t c = other_step c.requires.ready _ _ _ _ c.at_other-in_default.ensures c.in_default.in_default-own.rest
+pass-returns-in_default t c = other_step c.requires.ready _ _ _ _ c.at_other-in_default.ensures (search rules)
 
 pub pass_part-pass-requires : goal.pass_part-pass-requires
 pass_part-pass-requires t c = (search rules, c.requires.standing)
