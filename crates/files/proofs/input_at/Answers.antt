@@ -1,0 +1,21 @@
+use native.Mathlib.Omega.{arith}
+use Rattle.files.proofs.Files.{no_input, an_input}
+use Rattle.files.proofs.input_at.Goals as goal
+
+pub returns-then-n-at : goal.returns-then-n-at
+returns-then-n-at c =
+    let a = c.args in
+    let b = c.inputs_begin-at in
+    no_input a.file.now a.i b.result b.ensures.value (omega arith)
+
+pub returns-then-n-at-2 : goal.returns-then-n-at-2
+returns-then-n-at-2 c =
+    let a = c.args in
+    let b = c.inputs_begin-at in
+    no_input a.file.now a.i b.result b.ensures.value (omega arith)
+
+pub returns : goal.returns
+returns c =
+    let a = c.args in
+    let b = c.inputs_begin-at in
+    an_input a.file.now a.i b.result c.get_le.result b.ensures.value c.get_le.ensures.value (omega arith)
