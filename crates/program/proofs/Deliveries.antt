@@ -27,7 +27,7 @@ use Rattle.program.specs.Program.{Reacted}
 use Rattle.spec_language.specs.Errors.{first_error}
 use Rattle.reaction.specs.Completions.{code_of}
 use Rattle.reaction.proofs.Completions.{code_of_lem}
-use Rattle.program.specs.Deliveries.{term_of, HasNamed, Instant}
+use Rattle.program.specs.Deliveries.{term_of, Instant}
 
 -- ---- a term has the emissions of its statement
 module _ (f c : ℕ) where
