@@ -3,15 +3,7 @@ use Rattle.spec_tick.specs.Demands.{cleared}
 use Rattle.spec_programs.specs.File.{sequence_in, read_back_in, inputs_in}
 use Rattle.spec_programs.specs.Stages as Listing
 use Rattle.listing.proofs.Pieces.{printed}
-use borrow.Author.Rules.{rules}
-use Rattle.listing.proofs.heading.Statement.{statement}
-use Rattle.listing.proofs.heading.Tie as tie
+use Rattle.listing.proofs.heading.Goals as goal
 
-heading-requires : tie.Need-heading-requires
-heading-requires c κs = search rules
-
-returns : tie.Need-returns
+pub returns : goal.returns
 returns c = λ file. printed file _ (Listing.running (sequence_in file) (read_back_in file) cleared 1 (inputs_in file)) c.heading.ensures refl
-
-pub heading-spec : {M : Type 1} → statement M
-heading-spec = tie.close (tie.spec heading-requires returns)
