@@ -30,7 +30,7 @@ NO_EDIT = {"vectors"}  # a test, of which nothing is promised
 EXAMPLES = re.compile(r"Examples$|^Worked|Bays$|^FirstErrors$|^Suspended$")  # files of definitions worked by hand
 LIBRARIES = {"std", "check", "libc", "io", "os", "bytes"}  # of the toolchain
 SIGNATURE = r"^pub (?:extern \"C\" )?fn (\w+)((?:\([^\n]*|\((?:\n    [^\n]*)+\n\)[^\n]*) \{$|.*?^\{)"  # up to a body
-CLAUSE = r"^ +(requires|ensures)(?: \w+)? \{(.*?)\}(?=\n +(?:requires|ensures)\b|\s*\Z)"  # of what stands before a body
+CLAUSE = r"^ +(requires|ensures)(?: \w+)? \{(.*?)\}(?=\n +(?:requires|ensures)\b|\s*\{?\s*\Z)"  # of what stands before a body
 BINDER = r"[({][^(){}:]+ : "
 DECLARED = r"^\s*(?:abbrev |unfoldable )?pub (?:data |record )?{}(?=[\s:(])"
 
@@ -350,7 +350,7 @@ def reasons(texts, kind):
 
 def asking():
     """The functions open to other crates that require something."""
-    return {name for name, (head, is_open) in signatures().items() if is_open and "requires {" in head}
+    return {name for name, (head, is_open) in signatures().items() if is_open and re.search(r"\brequires(?: \w+)? \{", head)}
 
 
 def requirements(texts):
