@@ -128,7 +128,7 @@ pub extern "C" fn intake_box_service(memory: &[u8], bay: u32, trace: &[u8], view
     boxes::service(memory, bay, trace, view)
 }
 
-// What a panel shows of the record `trace`: without service_only signals.
+// What a panel shows of the record `trace`: without service-only signals.
 #[unsafe(no_mangle)]
 pub extern "C" fn intake_box_panel(memory: &[u8], bay: u32, trace: &[u8], view: &mut [u8]) -> u8
     ensures { called result memory.now (view.new ∷ [])

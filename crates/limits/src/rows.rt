@@ -26,7 +26,7 @@ pub const TWICE: u8 = 8;
 // A setpause whose label has no pause.
 pub const UNPAUSED: u8 = 9;
 
-// Not well_formed_lem.
+// Not well-formed.
 pub const FORM: u8 = 10;
 
 // A malformed state.

@@ -46,7 +46,7 @@ pub number_at : (sequence : List ℕ) (read_back : ℕ) (es : List ℕ) (i : ℕ
     → get_elem? (recording_of sequence read_back es) i ≡ some r → number_in r ≡ min (i + 1) last_number
 number_at = recordings.number_at
 
--- PANEL: 13 bytes, the same of two records exactly if they agree in number, code and, service_only signals aside, inputs and
+-- PANEL: 13 bytes, the same of two records exactly if they agree in number, code and, service-only signals aside, inputs and
 -- emitted set
 pub length_panel : (service_only : ℕ) (r : List ℕ) → length (panel_of service_only r) ≡ panel_length
 length_panel = panels.length_panel

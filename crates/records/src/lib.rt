@@ -209,7 +209,7 @@ fn show(view: &mut [u8], number: u32, code: u8, inputs: u32, emitted: u32)
     numbers::put_le(view, PANEL_EMITTED_AT, SIGNAL_BYTES, emitted as u64);
 }
 
-// What a panel shows of a record, service_only signals cleared in both sets.
+// What a panel shows of a record, service-only signals cleared in both sets.
 pub fn write_panel(view: &mut [u8], record: &[u8], service_only: u32)
     ensures { view.new ≡ replaced view.old (panel_of service_only «record».now) }
 {

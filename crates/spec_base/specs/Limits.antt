@@ -138,7 +138,7 @@ twice_row = 8
 abbrev pub unpaused_row : ℕ
 unpaused_row = 9
 
--- not well_formed_lem
+-- not well-formed
 abbrev pub form_row : ℕ
 form_row = 10
 

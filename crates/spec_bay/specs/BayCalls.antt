@@ -85,7 +85,7 @@ showing s shown viewLength trace view =
 unfoldable pub bay_service_of : (s trace view : List ℕ) → Called
 bay_service_of s trace view = showing s trace recordLength trace view
 
--- 'The bay's panel reader shows .. number, code, inputs and emitted set, with service_only signals cleared in both sets'
+-- 'The bay's panel reader shows .. number, code, inputs and emitted set, with service-only signals cleared in both sets'
 unfoldable pub bay_panel_of : (s trace view : List ℕ) → Called
 bay_panel_of s trace view = showing s (panel_of (service_only_in s) trace) panel_length trace view
 

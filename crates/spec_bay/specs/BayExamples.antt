@@ -43,7 +43,7 @@ for_two litres f = cond (eqb f 2) litres 0
 unfoldable blank : List ℕ
 blank = zeros stretch_length
 
--- a bay with service_only signals 2 and 3, whose machine waits at labels 1 and 2 after three instants, with labels 0 and 2 saved
+-- a bay with service-only signals 2 and 3, whose machine waits at labels 1 and 2 after three instants, with labels 0 and 2 saved
 -- under the name 9, on a bay number that has delivered 5 litres to farm 2
 unfoldable busy : List ℕ
 busy =
@@ -180,7 +180,7 @@ not_rewound : total_in 2 (ledger_in (memory_after (restored busy (some 5)))) ≡
 unfolding total_in of_bits whole in_unsigned to_unsigned busy filled vacated blank put zeros le_bytes le_number
 not_rewound = refl
 
--- ---- the panel: instant 258 on inputs 0 and 2, which emits 1 and 3, with service_only signals 2 and 3
+-- ---- the panel: instant 258 on inputs 0 and 2, which emits 1 and 3, with service-only signals 2 and 3
 panel_shown : first (lent_after (bay_panel_of busy (record_of 258 0x05 (answer_record 1 0 0 0x0A 4) (state_record 1 2)) (replicate panel_length 77)))
     ≡ 2 ∷ 1 ∷ 0 ∷ 0 ∷ 1 ∷ 1 ∷ 0 ∷ 0 ∷ 0 ∷ 2 ∷ 0 ∷ 0 ∷ 0 ∷ []
 unfolding bay_panel_of panel_of difference busy filled vacated blank put zeros le_bytes le_number

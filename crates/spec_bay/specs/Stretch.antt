@@ -10,7 +10,7 @@ use Rattle.spec_bay.specs.Ledgers.{ledger_length}
 
 -- ---- where the fields begin
 -- fixed by the admission: the length of the sequence (0: the bay is empty), the sequence, its read-back set, its ceiling and the
--- service_only set (02, item 10)
+-- service-only set (02, item 10)
 abbrev pub length_bytes : ℕ
 length_bytes = 2
 

@@ -98,7 +98,7 @@ OverBay call Has =
 abbrev pub terms_in : List ℕ → Terms
 terms_in s = terms (sequence_in s) (read_back_in s) (service_only_in s)
 
--- 'each with its own sequence .. and a read-back set fixed on admission', and the set of service_only signals with them: the bay holds what
+-- 'each with its own sequence .. and a read-back set fixed on admission', and the set of service-only signals with them: the bay holds what
 -- was admitted, whatever calls come in between, comings back to a position included
 abbrev pub TermsFixed : Calling → Type 0
 TermsFixed call = OverBay call (λ bay t from xs. terms_in (stretch_of bay (box_after call from xs)) ≡ t)

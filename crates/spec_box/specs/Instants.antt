@@ -38,7 +38,7 @@ abbrev pub NumberedFromOne : Calling → Type 0
 NumberedFromOne call =
     OverBay call (λ bay t from xs. (i : ℕ) (r : List ℕ) → get_elem? (records_in call bay from xs) i ≡ some r → number_in r ≡ min (i + 1) last_number)
 
--- 'a set of service_only signals, fixed on admission'
+-- 'a set of service-only signals, fixed on admission'
 abbrev pub ServiceOnlyFixed : Calling → Type 0
 ServiceOnlyFixed call = OverBay call (λ bay t from xs. service_only_in (stretch_of bay (box_after call from xs)) ≡ t.service_only)
 
@@ -53,7 +53,7 @@ PanelShows call =
     (box : List ℕ) (bay : ℕ) (trace view : List ℕ) → number (call box bay (panel trace view)) ≡ 0
     → call box bay (panel trace view) ≡ called 0 box (panel_of (service_only_in (stretch_of bay box)) trace ∷ [])
 
--- 'Two records give one bay's panel the same bytes exactly if they agree in number, code and, service_only signals aside, inputs and
+-- 'Two records give one bay's panel the same bytes exactly if they agree in number, code and, service-only signals aside, inputs and
 -- emitted set'
 abbrev pub PanelsAlike : Calling → Type 0
 PanelsAlike call =

@@ -158,7 +158,7 @@ with_setpause : paper_reports by_label_sets empty_paper (
 unfolding paper_reports encode_state expand active present_on find without save_named forget_named ordered totals_bytes to_bits of_int add would_pass following delivered_by of_bits whole in_unsigned to_unsigned le_bytes le_number checked read front command_of distinct well_formed before every_label labels_of subset disjoint members_from declared_by commands loop_nesting signal_nesting ceiling react_by errors_by reactions_by none only member join insert remove
 with_setpause = refl
 
--- ---- items 10 and 11: present 0 then emit 1 else nothing, signal 0 service_only, and unknown in a preview; then the machine is over
+-- ---- items 10 and 11: present 0 then emit 1 else nothing, signal 0 service-only, and unknown in a preview; then the machine is over
 abbrev tested : List ℕ
 tested = 0x07 ∷ 0x00 ∷ 0x02 ∷ 0x01 ∷ 0x00 ∷ []
 

@@ -79,7 +79,7 @@ blame (leaving n) x = no_error
 blame wrong (some x) = x
 blame wrong Option.none = no_error
 
--- ---- the same on derivations: one error for each use of loop_error, signal+− and signal−+, in the same order
+-- ---- the same on derivations: one error for each use of loop-error, signal+− and signal−+, in the same order
 unfoldable pub uses : {ord : Order} {p : Statement} {e : ℕ} {r : Reaction} → ReactsBy ord p e r → List Error
 uses ReactsBy.nothing = []
 uses ReactsBy.pause = []

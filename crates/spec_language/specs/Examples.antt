@@ -38,7 +38,7 @@ beside = signal local 0 1 (signal local 2 0 (seq (emit 0 pure) (seq (emit 1 pure
 abbrev jump : Statement
 jump = seq (pause 1) (seq (setpause 2) (seq (emit 0 pure) (pause 2)))
 
--- 002, section 4: not well_formed_lem
+-- 002, section 4: not well-formed
 abbrev split : Statement
 split = seq (pause 1) (seq (par (setpause 2) (pause 3)) (pause 2))
 

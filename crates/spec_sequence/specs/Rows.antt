@@ -73,7 +73,7 @@ pub data Row (bs : List ℕ) (read_back : ℕ) : (number : ℕ) → Type 0 where
       → Row bs read_back depth_row
   -- bytes after the statement
   row_7 : (n : ℕ) {a : ℕ} → walk n bs ≡ some (at a []) → a < length bs → Row bs read_back behind_row
-  -- two pauses with one label; a setpause whose label has no pause; not well_formed_lem
+  -- two pauses with one label; a setpause whose label has no pause; not well-formed
   row_8 : {p : Statement} → Spells bs p → ¬ Distinct p → Row bs read_back twice_row
   row_9 : {p : Statement} → Spells bs p → ¬ Targeted p → Row bs read_back unpaused_row
   row_10 : {p : Statement} → Spells bs p → ¬ WellFormed p → Row bs read_back form_row

@@ -35,7 +35,7 @@ answer_in r = take answer_length (drop answer_at r)
 abbrev pub state_in : List ℕ → List ℕ
 state_in r = take state_length (drop state_at r)
 
--- ---- what a panel shows: number, code, inputs and emitted set, service_only signals cleared in both sets
+-- ---- what a panel shows: number, code, inputs and emitted set, service-only signals cleared in both sets
 abbrev pub panel_input_at : ℕ
 panel_input_at = number_bytes + 1
 
@@ -53,7 +53,7 @@ unfoldable pub panel_of : (service_only : ℕ) → List ℕ → List ℕ
 panel_of service_only r =
     panel_bytes (number_in r) (code_in (answer_in r)) (difference (input_in r) service_only) (difference (emitted_in (answer_in r)) service_only)
 
--- ---- two records that agree in number, code and, service_only signals aside, inputs and emitted set
+-- ---- two records that agree in number, code and, service-only signals aside, inputs and emitted set
 abbrev pub AgreeOutside : (v s t : ℕ) → Type 0
 AgreeOutside v s t = (i : ℕ) → member i v ≡ false → member i s ≡ member i t
 

@@ -17,7 +17,7 @@ use Rattle.spec_tick.specs.Tick.{tick_by}
 use Rattle.spec_tick.specs.Record.{record_of, number_in, panel_of}
 use Rattle.spec_tick.specs.Recording.{following, records_from, recording_of}
 
--- instant 258 on inputs 0 and 2, which waits at label 1 and emits 1 and 3; signals 2 and 3 are service_only
+-- instant 258 on inputs 0 and 2, which waits at label 1 and emits 1 and 3; signals 2 and 3 are service-only
 shown : panel_of 0x0C (record_of 258 0x05 (answer_record 1 0 0 0x0A 4) (state_record 1 2))
     ≡ 2 ∷ 1 ∷ 0 ∷ 0 ∷ 1 ∷ 1 ∷ 0 ∷ 0 ∷ 0 ∷ 2 ∷ 0 ∷ 0 ∷ 0 ∷ []
 unfolding panel_of difference le_bytes le_number

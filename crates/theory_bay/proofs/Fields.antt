@@ -145,7 +145,7 @@ module _ (t : Terms) (ceiling : ℕ) (s : List ℕ) (z : length s ≡ stretch_le
               ∙ le_round_trip signal_bytes t.service_only hidden;
         }
 
-  -- what stands behind the service_only set is cleared, and behind that left
+  -- what stands behind the service-only set is cleared, and behind that left
   behind-fixed : (i m : ℕ) → state_at ≤ i → slot i m (filled t ceiling s) ≡ slot i m (vacated s)
   unfolding filled
   behind-fixed i m low =

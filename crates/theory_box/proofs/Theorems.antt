@@ -397,7 +397,7 @@ record_is = instants.record_is
 pub numbered_from_one : NumberedFromOne call_of
 numbered_from_one = instants.numbered_from_one
 
--- 'a set of service_only signals, fixed on admission'
+-- 'a set of service-only signals, fixed on admission'
 pub service_only_fixed : ServiceOnlyFixed call_of
 service_only_fixed box bay t small admitted xs k = ap (λ (u : Terms). u.service_only) (terms_fixed box bay t small admitted xs k)
 
@@ -405,11 +405,11 @@ service_only_fixed box bay t small admitted xs k = ap (λ (u : Terms). u.service
 pub service_shows : ServiceShows call_of
 service_shows = instants.service_shows
 
--- 'The bay's panel reader shows .. number, code, inputs and emitted set, with service_only signals cleared in both sets'
+-- 'The bay's panel reader shows .. number, code, inputs and emitted set, with service-only signals cleared in both sets'
 pub panel_shows : PanelShows call_of
 panel_shows = instants.panel_shows
 
--- 'Two records give one bay's panel the same bytes exactly if they agree in number, code and, service_only signals aside, inputs and
+-- 'Two records give one bay's panel the same bytes exactly if they agree in number, code and, service-only signals aside, inputs and
 -- emitted set'
 pub panels_alike : PanelsAlike call_of
 panels_alike = instants.panels_alike

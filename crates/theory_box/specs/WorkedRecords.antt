@@ -63,7 +63,7 @@ lengths =
     ∷ line (panel_into 36 37) 1 77
     ∷ []
 
--- ---- the panel of a bay with service_only signals 2 and 3: instant 258 on inputs 0 and 2, which emits 1 and 3
+-- ---- the panel of a bay with service-only signals 2 and 3: instant 258 on inputs 0 and 2, which emits 1 and 3
 abbrev hiding : Request
 hiding = record { bay = 0; call = admit (record { sequence = two_stages; read_back = 0; service_only = 0x0C }) }
 

@@ -29,7 +29,7 @@ signal_uses : {us xs vs ys : List Error} {x− r− x+ r+ : Reaction} {c : Case}
     → us ++ vs ++ signal_errors a c ≡ xs ++ ys ++ signal_errors a (case_of ord s r− r+)
 signal_uses ord a s h g i h− h+ = ap₂ ◌++◌ (ap₂ ◌++◌ h g) (ap (signal_errors a) (sym i ∙ ap₂ (case_of ord s) h− h+))
 
--- USES: one error for each use of loop_error, signal+− and signal−+
+-- USES: one error for each use of loop-error, signal+− and signal−+
 pub uses-is : {ord : Order} {p : Statement} {e : ℕ} {r : Reaction} (d : ReactsBy ord p e r) → uses d ≡ errors_by ord p e
 unfolding uses errors_by
 uses-is ReactsBy.nothing = refl

@@ -1,5 +1,5 @@
 -- 002, theorems 4 and 8: the labels of a waiting reaction are those of pauses and setpauses of the statement at pairwise
--- compatible places; so, for a well_formed_lem statement, they are a valid set. Fresh, or resumed from a valid set; setpause
+-- compatible places; so, for a well-formed statement, they are a valid set. Fresh, or resumed from a valid set; setpause
 -- and suspend included.
 use Prim.Native.Nat.{ℕ}
 use mathlib.Core.Path.{◌≡◌, refl, sym, ◌∙◌, subst, subst₂}
