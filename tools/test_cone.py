@@ -330,7 +330,7 @@ def whole_set(cones, cone):
 def damaged_pages(cones, texts, reading, claims, exports, roots, cone):
     """A theorem's name that is changed in a row, and a row that is changed in the page of reading, are noticed."""
     for item in claims.items()[::10]:
-        if "-" in item.name:
+        if re.search(r"[-_]", item.name):
             damaged = {path: text.replace(f"{item.name}`", f"{item.name}-not`") for path, text in texts.items()}
             expect(Claims(cones, damaged, reading).unknown, f"{item.name}-not is noticed")
     changes = (r"^\| \[.*\n", ""), (r"^\| all .*\n", ""), (r"(?<=\| )\d+(?= \|)", "7777"), (r"^Crates: `\w+`", "Crates: `nobody`")

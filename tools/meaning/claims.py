@@ -47,12 +47,13 @@ class Claims:
         self.rows = {}  # each theorem with the rows that cite it
         self.unknown = []  # what looks like a theorem and is none
         members = {name for items in cones.declared.values() for item in items for name in item.member_names()}
+        functions = cones.tree.functions()
         for path, text in texts.items():
             for row, word in cited(text):
                 for item in self.theorems(word):
                     self.rows.setdefault(item, []).append(row)
                 last = re.split(r"[./]", word)[-1]
-                if "-" in word and not re.search(r"[\s:]", word) and last not in members and not cones.candidates(last):
+                if re.search(r"[-_]", word) and not re.search(r"[\s:]", word) and last not in members | functions and not cones.candidates(last):
                     self.unknown.append(f"{path}: {row}: '{word}' is no theorem")
 
     def theorems(self, word):

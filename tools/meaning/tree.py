@@ -144,6 +144,12 @@ class Tree:
         return found
 
     @lru_cache(maxsize=None)
+    def functions(self):
+        """The names of the functions of the code."""
+        files = [file for crate in self.crates for file in (self.root / "crates" / crate / "src").glob("**/*.rt")]
+        return {name for file in files for name in re.findall(r"\bfn (\w+)", file.read_text(encoding="utf-8"))}
+
+    @lru_cache(maxsize=None)
     def ghost_scope(self, path):
         """The names that a file of code brings for its contracts."""
         uses = re.findall(r"^ghost use (.*?);", self.text(path), re.M | re.S)
