@@ -319,9 +319,9 @@ def quotations(page):
         yield "the vector"
     targets = re.findall(r"^([a-z-]+):", text_of("Makefile"), re.M)
     crates = re.findall(r"^(\w+)(?: staticlib)?:", text_of("crates.txt"), re.M)
-    named = re.findall(r"`rt (?:dev|check|must-fail) ([a-z_ ]+)`", page)
+    named = re.findall(r"`rt (?:ci|must-fail) ([a-z_ ]+)`|(?<= `crates/)([a-z_]+)`", page)
     yield from (f"make {target}" for target in re.findall(r"`make ([a-z-]+)`", page) if target not in targets)
-    yield from (f"crate {crate}" for words in named for crate in words.split() if crate not in crates)
+    yield from (f"crate {crate}" for words in named for crate in "".join(words).split() if crate not in crates)
     yield from links("CONTRIBUTING.md", page)
 
 
@@ -378,7 +378,7 @@ def changed(page):
 
 def misquoted(page):
     """Yields CONTRIBUTING with one quotation changed, and the quotation."""
-    quoted = r"`make ([a-z-]+)`|`rt (?:dev|check|must-fail) ([a-z_]+)|\]\(([^)]+)\)|^(?:file|old|new|  bytes|  run)(.*)$"
+    quoted = r"`make ([a-z-]+)`|`rt (?:ci|must-fail) ([a-z_]+)| `crates/([a-z_]+)`|\]\(([^)]+)\)|^(?:file|old|new|  bytes|  run)(.*)$"
     for found in re.finditer(quoted, page, re.M):
         at = found.end(found.lastindex) - 1
         yield page[:at] + ("x" if page[at] != "x" else "y") + page[at + 1 :], found[0]
