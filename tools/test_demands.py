@@ -196,9 +196,9 @@ def main():
     for old, new in ("## 2.3.0", "## 2.5.0"), ("landing 20,", "landing 22,"), ("| [12](", "| [13]("), ("05-suspend.md", "05-other.md"):
         expect(old in log and list(changelog(log.replace(old, new), header, notes)), f"CHANGELOG.md with {new} is noticed")
     readme = (ROOT / "README.md").read_text("utf-8")
-    version = re.search(r"`(rattle-kit-\S+ logic [0-9a-f]{16})`", readme)
+    versions = re.findall(r"`(rattle-kit-\S+ logic [0-9a-f]{16})`", readme)  # the kit's, and where it differs the certificate's
     certified = re.search(r"^\| toolchain .* `(.*)` \|$", (ROOT / "docs/CERTIFICATE.md").read_text("utf-8"), re.M)
-    expect(version and certified and version[1] == certified[1], "README and the certificate name one version of the toolchain")
+    expect(certified and versions and versions[-1] == certified[1], "README names the certificate's version of the toolchain last")
     for damaged, what in changed(texts):
         expect(list(names(damaged)), f"not noticed: {what}")
     named = list(edits_named(texts))
