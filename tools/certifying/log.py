@@ -48,12 +48,13 @@ def crates_in(text):
     """The crates proved, with what the prover's last line says of each."""
     crates, verdict, reached = {}, "", ""
     for line in text.splitlines():
-        proved = re.match(r"rt: (\w+) proved \(\d+ s\)$", line)
+        proved = re.match(r"rt: (\w+) proved$", line)
         edit = re.match(r"rt: must-fail (\w+)/\S+: refused, as it must be", line)
         if line.startswith("logic=proved "):
             verdict = line
         elif line.startswith("axioms "):
-            reached = re.sub(r"^axioms \w+: | \(.*", "", line)
+            words = re.sub(r"^axioms \w+: | \(\d+ of the .*|none reached of the .*", "", line)
+            reached = ", ".join(filter(None, [reached, words]))
         elif proved:
             if not verdict or proved[1] in crates:
                 raise Refusal(f"{LOG} has no verdict of {proved[1]}, or two")
@@ -121,13 +122,16 @@ class Gate:
         self.tests = tests_in(sections)
         self.logic = one(re.findall(r"^logic \S+: .*\bsum=([0-9a-f]{64})$", text, re.M), "sum of the logic")
         self.words = one(re.findall(r"^logic=proved .*?\b(native=.*)$", sections["rt"], re.M), "list of what is trusted")
-        told = re.search(r"^rt: ok, (\d+) crates proved, (\d+) must-fail edits refused$", sections["rt"], re.M)
+        told = re.search(r"^rt: ok; handles allowed: .*?; must-fail edits: (\d+) refused(.*); every proof and must-fail edit was done in this run$",
+                         sections["rt"], re.M)
         self.edits = sum(crate.edits for crate in self.crates.values())
-        if not told or (int(told[1]), int(told[2])) != (len(self.crates), self.edits):
+        if not told:
+            raise Refusal(f"{LOG}: rt ci did not do every proof and edit in that run: with rt ci --anew it does")
+        if int(told[1]) != self.edits or " bad" in told[2] or self.tests["rt"] != len(self.crates) + self.edits:
             raise Refusal(f"{LOG}: the crates and edits that it names are not as many as rt counted")
         if self.last != f"{sum(self.tests.values())} passed, 0 failed":
             raise Refusal(f"{LOG}: the last line is not the sum of the tests")
-        built = re.search(rf"^logic=proved (.*)\nrt: {ARCHIVE} has the functions of intake ", text, re.M)
+        built = re.search(rf"^logic=proved (.*)\narchive: {ARCHIVE} has the functions of intake ", text, re.M)
         if not built:
             raise Refusal(f"{LOG} has no verdict of the archive")
         self.archive_axioms = field(built[1], "axioms")

@@ -7,7 +7,8 @@ from certifying.log import ARCHIVE, HEADER, STORE
 def described(makefile):
     """What each target of the Makefile does, in its own words."""
     found = dict(re.findall(r"^([a-z-]+):[^#\n]*# (.*)$", makefile, re.M))
-    return found | {"rt": "crates proved from nothing, and must-fail edits refused"}
+    return found | {"rt": "crates proved from nothing, and must-fail edits refused",
+                    "archive": "builds the archive over the libraries proved, and takes the programs that ran"}
 
 
 def demands_of(text):

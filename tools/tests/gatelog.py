@@ -10,7 +10,7 @@ FILES = {
     "docs/DEMANDS.md": "# The demands\n\n## Demand 1\n\n| Name | Sentence |\n|---|---|\n| D1.1 | one |\n| D1.2 | two |\n\n"
                        "## Text\n\nnone\n",
     "docs/demands/items.md": "# More\n\n## 02, item 1\n\n| Name | Sentence |\n|---|---|\n| I1.1 | one |\n",
-    "crates.txt": "# a comment: with a colon\nesterel:\nnumbers: esterel\nrun: io libc numbers\n",
+    "crates.txt": "# a comment: with a colon\nesterel:\nnumbers staticlib: esterel\nrun: io libc numbers\n",
     "include/intake.h": "/* a header */\n#define INTAKE_VERSION_MAJOR 2\n#define INTAKE_VERSION_MINOR 14\n#define INTAKE_VERSION_PATCH 3\n",
     "include/intake_store.h": "/* a store */\n",
     "Makefile": "host-rust: archive # compares the archive with the check\nshow-test: # tests tools/show\n",
@@ -32,27 +32,28 @@ note: no function with a body is declared, so nothing was lowered
 logic /opt/rattle/logic/antt-project.json: libraries=16 files=1371 sum={LOGIC}
 library std: modules loaded=0 checked=0
 logic=proved functions=0 sum=097e4c862dff5811 {SAID}
-rt: esterel proved (1 s)
+rt: esterel proved
 fn numbers::at_most_8: proved
 logic /opt/rattle/logic/antt-project.json: libraries=16 files=1371 sum={LOGIC}
 logic=proved functions=5 sum=097e4c862dff5811 {SAID}
-rt: numbers proved (4 s)
+rt: numbers proved
 fn run::main: proved
 logic /opt/rattle/logic/antt-project.json: libraries=16 files=1371 sum={LOGIC}
 axioms libc: libc::read, libc::write (2 of the 50 declared)
+axioms os: none reached of the 22 declared
 logic=proved functions=3 axioms=2 target=x86_64-unknown-linux-gnu sum=097e4c862dff5811 {SAID}
-rt: run proved (12 s)
-rt: must-fail esterel/last_error: refused, as it must be (first at proofs/Errors.antt:12:3; 7 s)
-rt: must-fail esterel/other_run_first: refused, as it must be (9 s)
-rt: must-fail numbers/other_base: refused, as it must be (first at proofs/Reading.antt:1:3; 4 s)
-rt: run ran as nobody, and wrote what its file 'stdout' has (0 s)
-rt: ok, 3 crates proved, 3 must-fail edits refused
+rt: run proved
+rt: must-fail esterel/last_error.edit: refused, as it must be: ./proofs/Errors.antt:12:3: error: it is not so
+rt: must-fail esterel/other_run_first.edit: refused, as it must be: note: src/lib.rt:1:1: it is not proved
+rt: must-fail numbers/other_base.edit: refused, as it must be: ./proofs/Reading.antt:1:3: error: it is not so
+rt: run ran, and wrote what its file stdout has
+rt: ok; handles allowed: none; must-fail edits: 3 refused; every proof and must-fail edit was done in this run
 6 passed, 0 failed
 gate: test show-test
 40 passed, 0 failed
 gate: test host-rust
 logic=proved functions=2 target=x86_64-unknown-linux-gnu sum=097e4c862dff5811 {SAID}
-rt: target/staticlib/libintake.a has the functions of intake that are marked #[no_mangle] pub extern "C"
+archive: target/staticlib/libintake.a has the functions of intake that are marked #[unsafe(no_mangle)] pub extern "C"
 3 passed, 0 failed
 1200 passed, 0 failed
 gate: test figures
@@ -106,15 +107,17 @@ DAMAGED = [  # what is put in the place of what, and a word that the refusal mus
     ("40 passed, 0 failed", "0 passed, 0 failed", "show-test has failed"),
     ("gate: kit", "kit", "not a whole log"),
     ("gate: test rt\n", "", "not a whole log"),
-    ("rt: must-fail numbers/other_base: refused", "rt: must-fail numbers/other_base: NOT REFUSED", "as many as rt counted"),
+    ("rt: must-fail numbers/other_base.edit: refused", "rt: must-fail numbers/other_base.edit: NOT REFUSED", "as many as rt counted"),
     ("rt: must-fail numbers/", "rt: must-fail another/", "not proved"),
-    ("rt: numbers proved (4 s)\n", "", "not proved"),
-    ("rt: esterel proved (1 s)", "rt: extra proved (1 s)", "not proved"),
+    ("edits: 3 refused; every", "edits: 3 refused, 1 bad; every", "as many as rt counted"),
+    ("every proof and must-fail edit was done", "0 of the 6 proofs were done", "did not do every proof"),
+    ("rt: numbers proved\n", "", "not proved"),
+    ("rt: esterel proved", "rt: extra proved", "not proved"),
     ("logic=proved functions=5", "logic=not-proved functions=5", "no verdict of numbers"),
     (f"files=1371 sum={LOGIC}\nlibrary", "files=1371 sum=" + "0" * 64 + "\nlibrary", "more than one sum of the logic"),
     ("functions=5 sum=097e4c862dff5811 native=nat", "functions=5 sum=097e4c862dff5811 native=", "more than one list"),
     ("functions=5 sum", "functions=5 foreign=getpid sum", "numbers declares functions of C"),
-    ("rt: target/staticlib/libintake.a has", "rt: another has", "no verdict of the archive"),
+    ("archive: target/staticlib/libintake.a has", "archive: another has", "no verdict of the archive"),
     ("{archive}  target", "0" * 64 + "  target", "not the file of that run"),
     ("{header}  include", "0" * 64 + "  include", "not the file of that run"),
     ("gate: sha256 {header}  include/intake.h\n", "", "lacks the sum"),
