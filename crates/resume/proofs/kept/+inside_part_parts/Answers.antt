@@ -14,7 +14,7 @@ pub inside-returns-then-is_empty : goal.inside-returns-then-is_empty
 inside-returns-then-is_empty t c base p l = empty_step base _ p (tested c.from_words.ensures c.is_empty.ensures c.if-is_empty.true)
 
 pub inside-bounds-s-1 : goal.inside-bounds-s-1
-inside-bounds-s-1 t c = (begins c.requires Command.pause c.if-command-eq-PAUSE.true).there
+inside-bounds-s-1 t c = (begins c.requires Command.pause (search rules)).there
 
 pub inside-overflow_add-at : goal.inside-overflow_add-at
 inside-overflow_add-at t c = let r = c.requires in omega (arith, r.fits, there r (found r c.shape_of.ensures c.in-One.is))
