@@ -2,8 +2,8 @@
 """The archive holds no constant array (02, item 2): its read-only data is jump tables and nothing else.
 
 An entry of a jump table has four bytes, which a relocation against the code fills; a constant array has bytes that no
-relocation fills. Operands of vector instructions, which the compiler puts into sections .rodata.cst16 and no index reaches, are
-not arrays: they are counted apart, and few. A control object with an array must be turned down. Usage: archive_test.py ARCHIVE
+relocation fills. Operands of instructions on single-precision numbers and vectors, which the compiler puts into sections .rodata.cst4,
+.rodata.cst8 and .rodata.cst16 and no index reaches, are not arrays: they are counted apart, and few. A control object with an array must be turned down. Usage: archive_test.py ARCHIVE
 """
 import re
 import subprocess
@@ -46,7 +46,7 @@ def constant_bytes(path, show):
     for name, size in sections(path):
         if not re.match(r"\.(rodata|data|bss|tbss|tdata)", name) or size == 0:
             continue
-        operands = size if name == ".rodata.cst16" and size <= OPERANDS else 0
+        operands = size if re.fullmatch(r"\.rodata\.cst(4|8|16)", name) and size <= OPERANDS else 0
         needed = ENTRY * tables.get(name, 0) if name.startswith(".rodata") else 0
         over += size - needed - operands
         if show:
