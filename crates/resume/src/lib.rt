@@ -116,7 +116,10 @@ fn side(
     if labels::is_empty(active) {
         return reaction::nothing();
     }
-    part(s, n, at, depth, input, litres, active, second)
+    if react_leaves::is_pause(s, n) {
+        return reaction::nothing();
+    }
+    resume(&s[n..], at, depth, input, litres, active, second)
 }
 
 #[cycle(body_declaration_par_parts_part_present_parts_resume_seq_parts_side_signal_rule_suspend_part)]

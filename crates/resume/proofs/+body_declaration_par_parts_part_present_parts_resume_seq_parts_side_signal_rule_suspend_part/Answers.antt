@@ -147,8 +147,14 @@ seq_parts-returns t c base p l f =
 pub side-returns-then-is_empty : goal.side-returns-then-is_empty
 side-returns-then-is_empty t c base p l f = side-ended _ base _ _ p (sym c.is_empty.ensures ∙ c.if-is_empty.true) (nothing-step f nothing _ _ _ refl c.nothing.ensures)
 
+pub side-returns-then-is_pause : goal.side-returns-then-is_pause
+side-returns-then-is_pause t c base p l f =
+    let b = eqb-true _ _ (sym c.is_pause.ensures ∙ c.if-is_pause.true) in
+    side-active _ base _ _ p (sym c.is_empty.ensures ∙ c.if-is_empty.false)
+    (pause_step _ _ base _ _ p _ _ _ l (front-is c.args.n c.args.s.now b) (nothing-step f nothing _ _ _ refl c.nothing-then-is_pause.ensures))
+
 pub side-returns : goal.side-returns
-side-returns t c base p l f = side-active _ base _ _ p (sym c.is_empty.ensures ∙ c.if-is_empty.false) (c.part.ensures base p l f)
+side-returns t c base p l f = side-active _ base _ _ p (sym c.is_empty.ensures ∙ c.if-is_empty.false) (c.resume.ensures base p l f)
 
 pub signal_rule-bounds-s-1 : goal.signal_rule-bounds-s-1
 signal_rule-bounds-s-1 t c = (begins c.requires.0 Command.signal c.requires.1).there
