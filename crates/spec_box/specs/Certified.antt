@@ -11,7 +11,7 @@ use Rattle.spec_box.specs.Box.{empty_box, Call, ledger, on_tick, on_new_year}
 use Rattle.spec_box.specs.Lists.{Calling, Request, box_after, calls_to, in_turn}
 use Rattle.spec_box.specs.Shares.{AllSendable}
 use Rattle.spec_box.specs.Years.{sum_of}
-use Rattle.spec_box.specs.PaperBox.{BayMachine, by_terms, by_label_sets, PaperBay, PaperPlace, PaperBox, empty_paper, Reported, ticked, replies, addsOn, paperCall}
+use Rattle.spec_box.specs.PaperBox.{BayMachine, by_terms, by_label_sets, PaperBay, PaperPlace, PaperBox, empty_paper, Reported, ticked, replies, adds_on, paper_call}
 use Rattle.spec_box.specs.Reports.{Admitting, OnPaper, ByLabelSets}
 
 -- ---- what was delivered, on paper
@@ -19,27 +19,27 @@ module _ {S T R : Type 0} (m : BayMachine S T R) where
   -- what the instant on an input brings a farm
   abbrev pub delivery : Option (PaperBay S T) → (e farm : ℕ) → ℕ
   delivery none e f = 0
-  delivery (some b) e f = addsOn m b e f
+  delivery (some b) e f = adds_on m b e f
 
   -- a tick's delivery goes before those so far if it is an instant; one that is turned down (1, 12, 13, 19) delivers nothing
-  abbrev pub withDelivery : Reported R → (litres : ℕ) → List ℕ → List ℕ
-  withDelivery (ticked r) n ds = n ∷ ds
-  withDelivery (replies number lent) n ds = ds
+  abbrev pub with_delivery : Reported R → (litres : ℕ) → List ℕ → List ℕ
+  with_delivery (ticked r) n ds = n ∷ ds
+  with_delivery (replies number lent) n ds = ds
 
   -- the deliveries of a bay number to a farm after a call to it: a new year begins anew; an admission, a coming back and a taking out leave
   -- them like every other call
-  abbrev pub deliveriesAfter : (farm : ℕ) → Call → Reported R → Option (PaperBay S T) → List ℕ → List ℕ
-  deliveriesAfter f c o b ds = on_tick (on_new_year ds [] c) (λ e answer trace. withDelivery o (delivery b e f) ds) c
+  abbrev pub deliveries_after : (farm : ℕ) → Call → Reported R → Option (PaperBay S T) → List ℕ → List ℕ
+  deliveries_after f c o b ds = on_tick (on_new_year ds [] c) (λ e answer trace. with_delivery o (delivery b e f) ds) c
 
   -- over a list of calls, the latest first
-  unfoldable pub deliveriesOver : (bay farm : ℕ) → PaperBox S T → List ℕ → List Request → List ℕ
-  deliveriesOver bay f box ds xs =
-      in_turn (λ c. deliveriesAfter f c.call (paperCall m c.box bay c.call).0 (c.box bay).bay) ds
-      (calls_to (λ box x. (paperCall m box x.bay x.call).1) bay box xs)
+  unfoldable pub deliveries_over : (bay farm : ℕ) → PaperBox S T → List ℕ → List Request → List ℕ
+  deliveries_over bay f box ds xs =
+      in_turn (λ c. deliveries_after f c.call (paper_call m c.box bay c.call).0 (c.box bay).bay) ds
+      (calls_to (λ box x. (paper_call m box x.bay x.call).1) bay box xs)
 
   -- the litres that a bay number delivered to a farm since its last new year, after a list of calls from the empty box
-  abbrev pub deliveredOn : (bay : ℕ) → List Request → (farm : ℕ) → ℕ
-  deliveredOn bay xs farm = sum_of (deliveriesOver bay farm empty_paper [] xs)
+  abbrev pub delivered_on : (bay : ℕ) → List Request → (farm : ℕ) → ℕ
+  delivered_on bay xs farm = sum_of (deliveries_over bay farm empty_paper [] xs)
 
 -- ---- what is read
 -- the exact sum over the first n farms
@@ -66,14 +66,14 @@ abbrev pub ReadingsCertified : Calling → Type 0
 ReadingsCertified call =
     (xs : List Request) → AllSendable xs → Admitting NoSetpause xs → (bay : ℕ) (buffer : List ℕ)
     → number (call (box_after call empty_box xs) bay (ledger buffer)) ≡ 0
-    → Certified (deliveredOn by_terms bay xs) (first (lent_after (call (box_after call empty_box xs) bay (ledger buffer))))
+    → Certified (delivered_on by_terms bay xs) (first (lent_after (call (box_after call empty_box xs) bay (ledger buffer))))
 
 -- and, with setpause too, for what the paper delivered that keeps label sets
 abbrev pub ReadingsCertifiedByLabels : Calling → Type 0
 ReadingsCertifiedByLabels call =
     (xs : List Request) → AllSendable xs → (bay : ℕ) (buffer : List ℕ)
     → number (call (box_after call empty_box xs) bay (ledger buffer)) ≡ 0
-    → Certified (deliveredOn by_label_sets bay xs) (first (lent_after (call (box_after call empty_box xs) bay (ledger buffer))))
+    → Certified (delivered_on by_label_sets bay xs) (first (lent_after (call (box_after call empty_box xs) bay (ledger buffer))))
 
 -- ---- THE CERTIFICATE
 -- the ledger of every bay number can be read at any time, filled or empty

@@ -153,8 +153,8 @@ with_positions b ps =
 module _ {S T R : Type 0} (m : BayMachine S T R) where
   -- ITEM 8. 'A bay is admitted, fresh, if Item 6's ceilings of those present and its own sum to no more'; '14 for the sum, after the
   -- sequence's own check'
-  abbrev pub freshBay : Terms → Statement → PaperBay S T
-  freshBay t p =
+  abbrev pub fresh_bay : Terms → Statement → PaperBay S T
+  fresh_bay t p =
       record {
         statement = p;
         read_back = t.read_back;
@@ -164,90 +164,90 @@ module _ {S T R : Type 0} (m : BayMachine S T R) where
         positions = [];
       }
 
-  abbrev pub admitOn : (present : ℕ) → PaperPlace S T → Terms → Checked → PaperReply S T R
-  admitOn present z t (bad n) = down n [] z
-  admitOn present z t (sound p) =
-      cond (leb (present + ceiling (program t.read_back p)) shared_ceiling) (holds z (some (freshBay t p))) (down ceiling_row [] z)
+  abbrev pub admit_on : (present : ℕ) → PaperPlace S T → Terms → Checked → PaperReply S T R
+  admit_on present z t (bad n) = down n [] z
+  admit_on present z t (sound p) =
+      cond (leb (present + ceiling (program t.read_back p)) shared_ceiling) (holds z (some (fresh_bay t p))) (down ceiling_row [] z)
 
   -- ITEMS 10 AND 12. 12 where the machine is over; '19, last of all and writing nothing'; else an instant, which moves the machine, is
   -- counted, and adds its litres to the totals
-  abbrev pub addsOn : PaperBay S T → (e farm : ℕ) → ℕ
-  addsOn b e f = m.adds (program_of b) f b.machine e
+  abbrev pub adds_on : PaperBay S T → (e farm : ℕ) → ℕ
+  adds_on b e f = m.adds (program_of b) f b.machine e
 
   abbrev pub tick_on : PaperPlace S T → PaperBay S T → (e : ℕ) (lent : List (List ℕ)) → Seen → S → PaperReply S T R
   tick_on z b e lent refused w = down over_row lent z
   tick_on z b e lent (instant k x o n after) w =
-      cond (would_pass farm_count z.totals (addsOn b e)) (down ledger_row lent z) (
+      cond (would_pass farm_count z.totals (adds_on b e)) (down ledger_row lent z) (
         ticked (m.tells (instant k x o n after) w (following b.last) e),
-        record { bay = some (with_machine b w (following b.last)); totals = λ f. z.totals f + addsOn b e f },
+        record { bay = some (with_machine b w (following b.last)); totals = λ f. z.totals f + adds_on b e f },
       )
 
   -- ITEM 9. '15 to save a machine that isn't waiting .. then 16 for a seventeenth name'
-  abbrev pub renamedOn : PaperPlace S T → PaperBay S T → Answered T → PaperReply S T R
-  renamedOn z b (answered n ps) = (replies n [], record { bay = some (with_positions b ps); totals = z.totals })
+  abbrev pub renamed_on : PaperPlace S T → PaperBay S T → Answered T → PaperReply S T R
+  renamed_on z b (answered n ps) = (replies n [], record { bay = some (with_positions b ps); totals = z.totals })
 
-  abbrev pub saveOn : PaperPlace S T → PaperBay S T → (name : ℕ) → Option T → PaperReply S T R
-  saveOn z b name none = down position_row [] z
-  saveOn z b name (some t) = renamedOn z b (save_named name t b.positions)
+  abbrev pub save_on : PaperPlace S T → PaperBay S T → (name : ℕ) → Option T → PaperReply S T R
+  save_on z b name none = down position_row [] z
+  save_on z b name (some t) = renamed_on z b (save_named name t b.positions)
 
   -- coming back sets the machine to what was saved, whatever it was; the number goes on, and the totals stay
-  abbrev pub restoreOn : PaperPlace S T → PaperBay S T → Option T → PaperReply S T R
-  restoreOn z b none = down position_row [] z
-  restoreOn z b (some t) = holds z (some (with_machine b (m.back t) b.last))
+  abbrev pub restore_on : PaperPlace S T → PaperBay S T → Option T → PaperReply S T R
+  restore_on z b none = down position_row [] z
+  restore_on z b (some t) = holds z (some (with_machine b (m.back t) b.last))
 
   -- ITEM 11. 12 where the machine is over, then 17; 'The machine stays'
-  abbrev pub previewedOn : PaperPlace S T → Previewed → PaperReply S T R
-  previewedOn z (previewed n bytes) = (replies n (bytes ∷ []), z)
+  abbrev pub previewed_on : PaperPlace S T → Previewed → PaperReply S T R
+  previewed_on z (previewed n bytes) = (replies n (bytes ∷ []), z)
 
-  abbrev pub previewOn : PaperPlace S T → PaperBay S T → (e unknown : ℕ) (buffer : List ℕ) → Seen → PaperReply S T R
-  previewOn z b e unknown buffer refused = down over_row (buffer ∷ []) z
-  previewOn z b e unknown buffer (instant k x o n after) =
-      previewedOn z (shown_by (λ i. answer_seen (m.react (program_of b) b.machine i).0) e unknown buffer)
+  abbrev pub preview_on : PaperPlace S T → PaperBay S T → (e unknown : ℕ) (buffer : List ℕ) → Seen → PaperReply S T R
+  preview_on z b e unknown buffer refused = down over_row (buffer ∷ []) z
+  preview_on z b e unknown buffer (instant k x o n after) =
+      previewed_on z (shown_by (λ i. answer_seen (m.react (program_of b) b.machine i).0) e unknown buffer)
 
   -- number 1 for a buffer of another length
   abbrev pub sized : Bool → (lent : List (List ℕ)) → PaperPlace S T → PaperReply S T R → PaperReply S T R
   sized right lent z reply = cond right reply (down length_row lent z)
 
   -- '13 .. for .. one already filled on admission, or an empty one otherwise'
-  abbrev pub ifEmpty : Option (PaperBay S T) → PaperPlace S T → PaperReply S T R → PaperReply S T R
-  ifEmpty none z reply = reply
-  ifEmpty (some b) z reply = down bay_row [] z
+  abbrev pub if_empty : Option (PaperBay S T) → PaperPlace S T → PaperReply S T R → PaperReply S T R
+  if_empty none z reply = reply
+  if_empty (some b) z reply = down bay_row [] z
 
-  abbrev pub ifFilled : Option (PaperBay S T) → (lent : List (List ℕ)) → PaperPlace S T → (PaperBay S T → PaperReply S T R) → PaperReply S T R
-  ifFilled none lent z reply = down bay_row lent z
-  ifFilled (some b) lent z reply = reply b
+  abbrev pub if_filled : Option (PaperBay S T) → (lent : List (List ℕ)) → PaperPlace S T → (PaperBay S T → PaperReply S T R) → PaperReply S T R
+  if_filled none lent z reply = down bay_row lent z
+  if_filled (some b) lent z reply = reply b
 
   -- EACH CALL under a bay number, where those present have so much of the shared ceiling; 'The ledger's calls take an empty bay too'
-  abbrev pub placeCall : (present : ℕ) → Call → PaperPlace S T → PaperReply S T R
-  placeCall present (admit t) z = ifEmpty z.bay z (admitOn present z t (checked t.sequence t.read_back))
-  placeCall present release z = ifFilled z.bay [] z (λ b. holds z none)
-  placeCall present (tick e answer trace) z =
-      ifFilled z.bay (answer ∷ trace ∷ []) z (λ b.
+  abbrev pub place_call : (present : ℕ) → Call → PaperPlace S T → PaperReply S T R
+  place_call present (admit t) z = if_empty z.bay z (admit_on present z t (checked t.sequence t.read_back))
+  place_call present release z = if_filled z.bay [] z (λ b. holds z none)
+  place_call present (tick e answer trace) z =
+      if_filled z.bay (answer ∷ trace ∷ []) z (λ b.
       sized (eqb (length trace) recordLength && eqb (length answer) answer_length) (answer ∷ trace ∷ []) z
       (tick_on z b e (answer ∷ trace ∷ []) (m.react (program_of b) b.machine e).0 (m.react (program_of b) b.machine e).1))
-  placeCall present (save name) z = ifFilled z.bay [] z (λ b. saveOn z b name (m.kept b.machine))
-  placeCall present (restore name) z = ifFilled z.bay [] z (λ b. restoreOn z b (find name b.positions))
-  placeCall present (forget name) z = ifFilled z.bay [] z (λ b. renamedOn z b (forget_named name b.positions))
-  placeCall present (service trace view) z =
-      ifFilled z.bay (view ∷ []) z (λ b.
+  place_call present (save name) z = if_filled z.bay [] z (λ b. save_on z b name (m.kept b.machine))
+  place_call present (restore name) z = if_filled z.bay [] z (λ b. restore_on z b (find name b.positions))
+  place_call present (forget name) z = if_filled z.bay [] z (λ b. renamed_on z b (forget_named name b.positions))
+  place_call present (service trace view) z =
+      if_filled z.bay (view ∷ []) z (λ b.
       sized (eqb (length trace) recordLength && eqb (length view) recordLength) (view ∷ []) z (shows trace z))
-  placeCall present (panel trace view) z =
-      ifFilled z.bay (view ∷ []) z (λ b.
+  place_call present (panel trace view) z =
+      if_filled z.bay (view ∷ []) z (λ b.
       sized (eqb (length trace) recordLength && eqb (length view) panel_length) (view ∷ []) z (shows (panel_of b.service_only trace) z))
-  placeCall present (preview e unknown buffer) z =
-      ifFilled z.bay (buffer ∷ []) z (λ b.
+  place_call present (preview e unknown buffer) z =
+      if_filled z.bay (buffer ∷ []) z (λ b.
       sized (eqb (length buffer) preview_length) (buffer ∷ []) z
-      (previewOn z b e unknown buffer (m.react (program_of b) b.machine e).0))
-  placeCall present (ledger buffer) z = sized (eqb (length buffer) reading_length) (buffer ∷ []) z (shows (reading_for z.totals) z)
-  placeCall present new_year z = (replies 0 [], record { bay = z.bay; totals = λ f. 0 })
+      (preview_on z b e unknown buffer (m.react (program_of b) b.machine e).0))
+  place_call present (ledger buffer) z = sized (eqb (length buffer) reading_length) (buffer ∷ []) z (shows (reading_for z.totals) z)
+  place_call present new_year z = (replies 0 [], record { bay = z.bay; totals = λ f. 0 })
 
   -- the box after a call under this bay number: the others stay
-  abbrev pub withPlace : PaperBox S T → (bay : ℕ) → PaperPlace S T → PaperBox S T
-  withPlace box bay z i = cond (eqb i bay) z (box i)
+  abbrev pub with_place : PaperBox S T → (bay : ℕ) → PaperPlace S T → PaperBox S T
+  with_place box bay z i = cond (eqb i bay) z (box i)
 
   -- A CALL TO THE BOX. '13, before all others, for a bay number above 7'
-  abbrev pub paperCall : PaperBox S T → (bay : ℕ) → Call → Reported R × PaperBox S T
-  paperCall box bay c =
+  abbrev pub paper_call : PaperBox S T → (bay : ℕ) → Call → Reported R × PaperBox S T
+  paper_call box bay c =
       cond (ltb bay bay_count)
-      ((placeCall (present_on bay_count box) c (box bay)).0, withPlace box bay (placeCall (present_on bay_count box) c (box bay)).1)
+      ((place_call (present_on bay_count box) c (box bay)).0, with_place box bay (place_call (present_on bay_count box) c (box bay)).1)
       (replies bay_row (buffers c), box)

@@ -31,7 +31,7 @@ use Rattle.spec_box.specs.Box.{Call, admit, release, tick, save, restore, forget
 use Rattle.spec_box.specs.Lists.{Request, calls_to}
 use Rattle.spec_box.specs.PaperBox.{by_terms, by_label_sets, empty_paper, InstantTold, told, Reported, ticked, replies, present_on}
 use Rattle.spec_box.specs.Reports.{paper_reports}
-use Rattle.spec_box.specs.Certified.{deliveriesOver, deliveredOn}
+use Rattle.spec_box.specs.Certified.{deliveries_over, delivered_on}
 
 abbrev to : (bay : ℕ) → Call → Request
 to bay c = record { bay = bay; call = c }
@@ -278,16 +278,16 @@ since_admission =
     ∷ to 3 (instant 0)
     ∷ []
 
-delivered_since_lem : (deliveredOn by_terms 3 since_admission 2 ≡ 34) × (deliveredOn by_terms 3 since_admission 1 ≡ 0) × (deliveredOn by_terms 2 since_admission 2 ≡ 0)
-unfolding deliveriesOver sum_of paper_reports present_on find without save_named forget_named ordered totals_bytes to_bits of_int add would_pass following delivered_by of_bits whole in_unsigned to_unsigned le_bytes le_number checked read front command_of distinct well_formed before every_label labels_of subset disjoint members_from declared_by commands loop_nesting signal_nesting ceiling react_by errors_by reactions_by none only member join insert remove calls_to
+delivered_since_lem : (delivered_on by_terms 3 since_admission 2 ≡ 34) × (delivered_on by_terms 3 since_admission 1 ≡ 0) × (delivered_on by_terms 2 since_admission 2 ≡ 0)
+unfolding deliveries_over sum_of paper_reports present_on find without save_named forget_named ordered totals_bytes to_bits of_int add would_pass following delivered_by of_bits whole in_unsigned to_unsigned le_bytes le_number checked read front command_of distinct well_formed before every_label labels_of subset disjoint members_from declared_by commands loop_nesting signal_nesting ceiling react_by errors_by reactions_by none only member join insert remove calls_to
 delivered_since_lem = (refl, refl, refl)
 
-limit-delivered : deliveredOn by_terms 0 (to 0 (admitting fills 0 0) ∷ to 0 (instant 0) ∷ to 0 (instant 0) ∷ []) 2 ≡ 16777216
-unfolding deliveriesOver sum_of paper_reports present_on find without save_named forget_named ordered totals_bytes to_bits of_int add would_pass following delivered_by of_bits whole in_unsigned to_unsigned le_bytes le_number checked read front command_of distinct well_formed before every_label labels_of subset disjoint members_from declared_by commands loop_nesting signal_nesting ceiling react_by errors_by reactions_by none only member join insert remove calls_to
+limit-delivered : delivered_on by_terms 0 (to 0 (admitting fills 0 0) ∷ to 0 (instant 0) ∷ to 0 (instant 0) ∷ []) 2 ≡ 16777216
+unfolding deliveries_over sum_of paper_reports present_on find without save_named forget_named ordered totals_bytes to_bits of_int add would_pass following delivered_by of_bits whole in_unsigned to_unsigned le_bytes le_number checked read front command_of distinct well_formed before every_label labels_of subset disjoint members_from declared_by commands loop_nesting signal_nesting ceiling react_by errors_by reactions_by none only member join insert remove calls_to
 limit-delivered = refl
 
-new_year_delivered : deliveredOn by_terms 0 (
+new_year_delivered : delivered_on by_terms 0 (
     to 0 (admitting rinse 0 0) ∷ to 0 (instant 0) ∷ to 1 new_year ∷ to 0 new_year ∷ to 0 (instant 0) ∷ to 1 new_year ∷ []
     ) 2 ≡ 12
-unfolding deliveriesOver sum_of paper_reports present_on find without save_named forget_named ordered totals_bytes to_bits of_int add would_pass following delivered_by of_bits whole in_unsigned to_unsigned le_bytes le_number checked read front command_of distinct well_formed before every_label labels_of subset disjoint members_from declared_by commands loop_nesting signal_nesting ceiling react_by errors_by reactions_by none only member join insert remove calls_to
+unfolding deliveries_over sum_of paper_reports present_on find without save_named forget_named ordered totals_bytes to_bits of_int add would_pass following delivered_by of_bits whole in_unsigned to_unsigned le_bytes le_number checked read front command_of distinct well_formed before every_label labels_of subset disjoint members_from declared_by commands loop_nesting signal_nesting ceiling react_by errors_by reactions_by none only member join insert remove calls_to
 new_year_delivered = refl

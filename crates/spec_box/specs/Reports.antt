@@ -18,7 +18,7 @@ use Rattle.spec_box.specs.Box.{empty_box, stretch_of, Call, admit, on_tick}
 use Rattle.spec_box.specs.Lists.{Calling, Request, after_call, box_after}
 use Rattle.spec_box.specs.Instants.{second}
 use Rattle.spec_box.specs.Shares.{AllSendable}
-use Rattle.spec_box.specs.PaperBox.{BayMachine, by_terms, by_label_sets, PaperBay, PaperBox, empty_paper, Reported, ticked, replies, part_on, paperCall}
+use Rattle.spec_box.specs.PaperBox.{BayMachine, by_terms, by_label_sets, PaperBay, PaperBox, empty_paper, Reported, ticked, replies, part_on, paper_call}
 
 abbrev pub is_tick : Call → Bool
 is_tick = on_tick false (λ e answer trace. true)
@@ -38,12 +38,12 @@ reports reads call box (x ∷ xs) =
 
 unfoldable pub paper_reports : {S T R : Type 0} → BayMachine S T R → PaperBox S T → List Request → List (Reported R)
 paper_reports m box [] = []
-paper_reports m box (x ∷ xs) = (paperCall m box x.bay x.call).0 ∷ paper_reports m (paperCall m box x.bay x.call).1 xs
+paper_reports m box (x ∷ xs) = (paper_call m box x.bay x.call).0 ∷ paper_reports m (paper_call m box x.bay x.call).1 xs
 
 -- the box on paper after them
 unfoldable pub paper_after : {S T R : Type 0} → BayMachine S T R → PaperBox S T → List Request → PaperBox S T
 paper_after m box [] = box
-paper_after m box (x ∷ xs) = paper_after m (paperCall m box x.bay x.call).1 xs
+paper_after m box (x ∷ xs) = paper_after m (paper_call m box x.bay x.call).1 xs
 
 -- ---- the claims
 -- every sequence of the list that is given to an admission and passes the check spells such a statement

@@ -39,7 +39,7 @@ use Rattle.theory_bay.proofs.Fields.{filled-zeros}
 use Rattle.theory_box.proofs.Bays.{ceiling_for, bounds, passed, admit-by-sum}
 use Rattle.theory_box.proofs.Standing.{cleared_fresh, fresh-state, filled-stands}
 use Rattle.theory_box.proofs.Positions.{Positioned, positioned_zeros}
-use Rattle.spec_box.specs.PaperBox.{PaperPlace, replies, down, holds, shows, freshBay, admitOn, sized}
+use Rattle.spec_box.specs.PaperBox.{PaperPlace, replies, down, holds, shows, fresh_bay, admit_on, sized}
 use Rattle.theory_box.proofs.PaperMachines.{Follows}
 use Rattle.theory_box.proofs.PaperNames.{nil-kept}
 use Rattle.theory_box.proofs.PaperAlike.{Present, SameTotals, Alike, vacant, present, Same, same-down, same-answered, totals_after}
@@ -123,30 +123,30 @@ module _ {S T R : Type 0} (m : Follows S T R) (k : ℕ) (s : List ℕ) (z : Pape
       ceiling-is = ap (ceiling_of x.read_back) a.is_checked
 
       by-room : (b : Bool) → bay_admit_of k s x ≡ cond b (called 0 (filled x (ceiling_for x) s) []) (called 14 s [])
-          → Same m (admit x) (bay_admit_of k s x) (cond b (holds z (some (freshBay m.kind x a.statement))) (down 14 [] z))
+          → Same m (admit x) (bay_admit_of k s x) (cond b (holds z (some (fresh_bay m.kind x a.statement))) (down 14 [] z))
       unfolding fresh
       by-room true w =
-          same-answered m (admit x) (filled x (ceiling_for x) s) (record { bay = some (freshBay m.kind x a.statement); totals = z.totals }) [] (replies 0 []) refl
+          same-answered m (admit x) (filled x (ceiling_for x) s) (record { bay = some (fresh_bay m.kind x a.statement); totals = z.totals }) [] (replies 0 []) refl
           (present fresh refl
           (λ f l. sym (ap (λ (o : Called). total_in f (ledger_in (memory_after o))) w) ∙ totals_after k s long z.totals t (admit x) (ap number w) f l))
           w refl
       by-room false w = same-down m (admit x) s z (vacant long empty bay t) 14 (λ y. omega arith) [] w refl
 
-      accepted-same : Same m (admit x) (bay_admit_of k s x) (admitOn m.kind k z x (sound a.statement))
+      accepted-same : Same m (admit x) (bay_admit_of k s x) (admit_on m.kind k z x (sound a.statement))
       accepted-same =
           by-room (leb (k + ceiling (program x.read_back a.statement)) shared_ceiling)
           (admit-by-sum k s x a
           ∙ ap (λ (n : ℕ). cond (leb (k + n) shared_ceiling) (called 0 (filled x (ceiling_for x) s) []) (called 14 s [])) ceiling-is)
 
-    pub admit-same : Same m (admit x) (bay_admit_of k s x) (admitOn m.kind k z x (checked x.sequence x.read_back))
+    pub admit-same : Same m (admit x) (bay_admit_of k s x) (admit_on m.kind k z x (checked x.sequence x.read_back))
     unfolding bay_admit_of check_of
     admit-same = go (checked x.sequence x.read_back) refl (decided x.sequence x.read_back)
       where
         go : (c : Checked) → checked x.sequence x.read_back ≡ c → Decides x.sequence x.read_back c
-            → Same m (admit x) (bay_admit_of k s x) (admitOn m.kind k z x (checked x.sequence x.read_back))
+            → Same m (admit x) (bay_admit_of k s x) (admit_on m.kind k z x (checked x.sequence x.read_back))
         go (bad n) i d =
             same-down m (admit x) s z (vacant long empty bay t) n (λ y. omega (arith, row-range x.sequence x.read_back n d.0)) []
-            (rw i) (ap (admitOn m.kind k z x) i)
+            (rw i) (ap (admit_on m.kind k z x) i)
         go (sound p) i d =
             let a = accepted x.sequence x.read_back (rw i) in
-            subst (λ (c : Checked). Same m (admit x) (bay_admit_of k s x) (admitOn m.kind k z x c)) (sym a.is_checked) (accepted-same a)
+            subst (λ (c : Checked). Same m (admit x) (bay_admit_of k s x) (admit_on m.kind k z x c)) (sym a.is_checked) (accepted-same a)

@@ -70,8 +70,8 @@ module _ {S T R : Type 0} (m : Follows S T R) where
   standing h = record { accepted = h.accepted; holds = h.holds; state = h.state; bytes = h.bytes; recorded = h.recorded }
 
   -- the bay of the paper
-  abbrev pub bayOf : {s : List ℕ} → Present s → PaperBay S T
-  bayOf h =
+  abbrev pub bay_of : {s : List ℕ} → Present s → PaperBay S T
+  bay_of h =
       record {
         statement = h.accepted.statement;
         read_back = h.terms.read_back;
@@ -83,7 +83,7 @@ module _ {S T R : Type 0} (m : Follows S T R) where
 
   pub data Alike (s : List ℕ) (z : PaperPlace S T) : Type 0 where
     vacant : length s ≡ stretch_length → length_in s ≡ 0 → z.bay ≡ none → SameTotals s z.totals → Alike s z
-    present : (h : Present s) → z.bay ≡ some (bayOf h) → SameTotals s z.totals → Alike s z
+    present : (h : Present s) → z.bay ≡ some (bay_of h) → SameTotals s z.totals → Alike s z
 
   -- what a call on the slot comes to is what it comes to on paper
   pub record Same (c : Call) (o : Called) (told : PaperReply S T R) : Type 0 where

@@ -33,13 +33,13 @@ use Rattle.theory_box.proofs.Standing.{not-empty, sequence-held}
 use Rattle.theory_box.proofs.Reached.{part_vacant, part_held, empty_stretch_lem, kept_empty}
 use Rattle.theory_box.proofs.Years.{at_first}
 use Rattle.theory_box.proofs.Stretches.{result, no-bay, own, own_stretch, same_length, others_stay}
-use Rattle.spec_box.specs.PaperBox.{PaperBay, PaperPlace, PaperBox, empty_paper, Reported, replies, PaperReply, down, part_on, present_on, placeCall, withPlace, paperCall, by_terms, by_label_sets}
+use Rattle.spec_box.specs.PaperBox.{PaperBay, PaperPlace, PaperBox, empty_paper, Reported, replies, PaperReply, down, part_on, present_on, place_call, with_place, paper_call, by_terms, by_label_sets}
 use Rattle.spec_box.specs.Reports.{reported, reports, paper_reports, paper_after, Admitting, OnPaper, ByLabelSets, HeldIf, HeldOnPaper}
 use Rattle.theory_box.proofs.PaperMachines.{Follows, terms_follow, labels_follow}
 use Rattle.spec_bay.specs.Names.{find}
-use Rattle.theory_box.proofs.PaperNames.{keptIf, find-kept}
+use Rattle.theory_box.proofs.PaperNames.{kept_if, find-kept}
 use Rattle.theory_box.proofs.PaperAlike as alike
-use Rattle.theory_box.proofs.PaperAlike.{Present, standing, bayOf, SameTotals, Alike, Same, refusal_reported, same-down}
+use Rattle.theory_box.proofs.PaperAlike.{Present, standing, bay_of, SameTotals, Alike, Same, refusal_reported, same-down}
 use Rattle.theory_box.proofs.PaperMoves.{release-same, year-same, service-same, panel-same, save-same, forget-same, restore_same}
 use Rattle.theory_box.proofs.PaperTicks.{tick_same}
 use Rattle.theory_box.proofs.PaperPreviews.{preview-same}
@@ -59,15 +59,15 @@ module _ {S T R : Type 0} (m : Follows S T R) (k : ℕ) (s : List ℕ) (z : Pape
 -- a bay that is present
 module _ {S T R : Type 0} (m : Follows S T R) (k : ℕ) (s : List ℕ) (h : Present m s) (totals : ℕ → ℕ) (t : SameTotals s totals) where
   abbrev z : PaperPlace S T
-  z = record { bay = some (bayOf m h); totals = totals }
+  z = record { bay = some (bay_of m h); totals = totals }
 
-  a : Alike m s (record { bay = some (bayOf m h); totals = totals })
+  a : Alike m s (record { bay = some (bay_of m h); totals = totals })
   a = alike.present h refl t
 
   filled : is_empty s ≡ false
   filled = not-empty h.terms s (standing m h)
 
-  present-same : (c : Call) → Fits m.For c → Same m c (on_stretch k c s) (placeCall m.kind k c (record { bay = some (bayOf m h); totals = totals }))
+  present-same : (c : Call) → Fits m.For c → Same m c (on_stretch k c s) (place_call m.kind k c (record { bay = some (bay_of m h); totals = totals }))
   present-same (admit x) r = not_there m k s z (admit x) a filled refl
   present-same release r = rw filled (release-same m k s z h refl t)
   present-same (tick i answer trace) r = rw filled (tick_same m k s z h refl t i answer trace)
@@ -94,7 +94,7 @@ module _ {S T R : Type 0} (m : Follows S T R) (k : ℕ) (s : List ℕ) (sized : 
   absent : (c : Call) → is_for c s ≡ false → {told : PaperReply S T R} → told ≡ down 13 (buffers c) (record { bay = Option.none; totals = totals }) → Same m c (on_stretch k c s) told
   absent c i e = not_there m k s z₀ c a₀ i e
 
-  vacant-same : (c : Call) → Fits m.For c → Same m c (on_stretch k c s) (placeCall m.kind k c (record { bay = Option.none; totals = totals }))
+  vacant-same : (c : Call) → Fits m.For c → Same m c (on_stretch k c s) (place_call m.kind k c (record { bay = Option.none; totals = totals }))
   vacant-same (admit x) r = rw free (admit-same m k s z₀ sized empty refl t x r.sendable (r.admitted x refl))
   vacant-same release r = absent release (rw free) refl
   vacant-same (tick i answer trace) r = absent (tick i answer trace) (rw free) refl
@@ -107,12 +107,12 @@ module _ {S T R : Type 0} (m : Follows S T R) (k : ℕ) (s : List ℕ) (sized : 
   vacant-same (ledger buffer) r = ledger_same m s z₀ a₀ t buffer
   vacant-same new_year r = vacant-year-same m k s z₀ sized empty refl t
 
-stretch_same : {S T R : Type 0} (m : Follows S T R) (k : ℕ) (s : List ℕ) (z : PaperPlace S T) → Alike m s z → (c : Call) → Fits m.For c → Same m c (on_stretch k c s) (placeCall m.kind k c z)
+stretch_same : {S T R : Type 0} (m : Follows S T R) (k : ℕ) (s : List ℕ) (z : PaperPlace S T) → Alike m s z → (c : Call) → Fits m.For c → Same m c (on_stretch k c s) (place_call m.kind k c z)
 stretch_same {S = S} {T = T} m k s z (alike.vacant sized empty e t) c r =
-    subst (λ (b : Option (PaperBay S T)). Same m c (on_stretch k c s) (placeCall m.kind k c (record { bay = b; totals = z.totals }))) (sym e)
+    subst (λ (b : Option (PaperBay S T)). Same m c (on_stretch k c s) (place_call m.kind k c (record { bay = b; totals = z.totals }))) (sym e)
     (vacant-same m k s sized empty z.totals t c r)
 stretch_same {S = S} {T = T} m k s z (alike.present h e t) c r =
-    subst (λ (b : Option (PaperBay S T)). Same m c (on_stretch k c s) (placeCall m.kind k c (record { bay = b; totals = z.totals }))) (sym e)
+    subst (λ (b : Option (PaperBay S T)). Same m c (on_stretch k c s) (place_call m.kind k c (record { bay = b; totals = z.totals }))) (sym e)
     (present-same m k s h z.totals t c r)
 
 -- ---- boxes
@@ -136,26 +136,26 @@ pub record Step {S T R : Type 0} (m : Follows S T R) (box : List ℕ) (bay : ℕ
   pub report : reported m.kind.reads c (call_of box bay c) ≡ told.0
   pub after : Simulates m (memory_after (call_of box bay c)) told.1
 
-call_step : {S T R : Type 0} (m : Follows S T R) (box : List ℕ) (paper : PaperBox S T) → Simulates m box paper → (bay : ℕ) (c : Call) → Fits m.For c → Step m box bay c (paperCall m.kind paper bay c)
+call_step : {S T R : Type 0} (m : Follows S T R) (box : List ℕ) (paper : PaperBox S T) → Simulates m box paper → (bay : ℕ) (c : Call) → Fits m.For c → Step m box bay c (paper_call m.kind paper bay c)
 call_step {S = S} {T = T} {R = R} m box paper h bay c r = elim (dec_lt bay bay_count) [ yes b ↦ inside b | no b ↦ outside (omega arith) ]
   where
-    outside : bay_count ≤ bay → Step m box bay c (paperCall m.kind paper bay c)
+    outside : bay_count ≤ bay → Step m box bay c (paper_call m.kind paper bay c)
     outside b =
         let e = no-bay box bay c b in
         subst (Step m box bay c) (sym (ap (λ (x : Bool). cond x
-        ((placeCall m.kind (present_on bay_count paper) c (paper bay)).0, withPlace m.kind paper bay (placeCall m.kind (present_on bay_count paper) c (paper bay)).1) (replies 13 (buffers c), paper)) (le-ltb bay bay_count b)))
+        ((place_call m.kind (present_on bay_count paper) c (paper bay)).0, with_place m.kind paper bay (place_call m.kind (present_on bay_count paper) c (paper bay)).1) (replies 13 (buffers c), paper)) (le-ltb bay bay_count b)))
         (record { report = ap (reported m.kind.reads c) e ∙ refusal_reported m.kind.reads c 13 (λ y. omega arith) box (buffers c); after = subst (λ (o : Called). Simulates m (memory_after o) paper) (sym e) h })
 
-    inside : bay < bay_count → Step m box bay c (paperCall m.kind paper bay c)
+    inside : bay < bay_count → Step m box bay c (paper_call m.kind paper bay c)
     inside b =
-        let told : PaperReply S T R = placeCall m.kind (present_on bay_count paper) c (paper bay) in
+        let told : PaperReply S T R = place_call m.kind (present_on bay_count paper) c (paper bay) in
         let s : List ℕ = stretch_of bay box in
-        let k = ap (λ (n : ℕ). placeCall m.kind n c (paper bay)) (same_parts m box paper h bay_count (omega arith)) in
+        let k = ap (λ (n : ℕ). place_call m.kind n c (paper bay)) (same_parts m box paper h bay_count (omega arith)) in
         let x : Same m c (result box bay c) told =
         subst (Same m c (result box bay c)) k (stretch_same m (present bay_count box) s (paper bay) (h.places bay b) c r) in
         let w = own box bay c b h.sized in
         subst (Step m box bay c) (sym (ap (λ (x : Bool). cond x
-        ((placeCall m.kind (present_on bay_count paper) c (paper bay)).0, withPlace m.kind paper bay (placeCall m.kind (present_on bay_count paper) c (paper bay)).1) (replies 13 (buffers c), paper)) (lt-ltb bay bay_count b)))
+        ((place_call m.kind (present_on bay_count paper) c (paper bay)).0, with_place m.kind paper bay (place_call m.kind (present_on bay_count paper) c (paper bay)).1) (replies 13 (buffers c), paper)) (lt-ltb bay bay_count b)))
         (record {
           report = ap (reported m.kind.reads c) w ∙ x.report;
           after = record {
@@ -180,7 +180,7 @@ from_alike {R = R} m box paper h [] none a = refl
 from_alike {R = R} m box paper h (x ∷ xs) (each r k) a =
     let s = call_step m box paper h x.bay x.call (first_fits x xs r a) in
     ap₂ {B = List (Reported R)} {C = List (Reported R)} ◌∷◌ s.report
-    (from_alike m (after_call call_of box x) (paperCall m.kind paper x.bay x.call).1 s.after xs k (λ y i. a y (Memᴰ.tail i)))
+    (from_alike m (after_call call_of box x) (paper_call m.kind paper x.bay x.call).1 s.after xs k (λ y i. a y (Memᴰ.tail i)))
 
 -- ---- from the empty box
 zeros_empty : length_in (zeros stretch_length) ≡ 0
@@ -211,7 +211,7 @@ simulates_after : {S T R : Type 0} (m : Follows S T R) (box : List ℕ) (paper :
 unfolding box_after paper_after
 simulates_after m box paper h [] none a = h
 simulates_after m box paper h (x ∷ xs) (each r k) a =
-    simulates_after m (after_call call_of box x) (paperCall m.kind paper x.bay x.call).1
+    simulates_after m (after_call call_of box x) (paper_call m.kind paper x.bay x.call).1
     (call_step m box paper h x.bay x.call (first_fits x xs r a)).after xs k (λ y i. a y (Memᴰ.tail i))
 
 -- the total that the box holds of a farm is the paper's, across comings back, takings out and new years
@@ -227,7 +227,7 @@ totals_on m xs k a bay b =
     ((simulates_after m empty_box empty_paper (empty_simulates m) xs k a).places bay b)
 
 -- the bay that the box holds is the paper's
-same_positions : (o : Option ℕ) → keptIf (λ L. L) o ≡ o
+same_positions : (o : Option ℕ) → kept_if (λ L. L) o ≡ o
 same_positions Option.none = refl
 same_positions (some L) = refl
 

@@ -26,7 +26,7 @@ use Rattle.theory_box.proofs.Years.{ledger_shows, ledger_numbers, sized_after}
 use Rattle.spec_box.specs.PaperBox.{empty_paper}
 use Rattle.spec_box.specs.Reports.{Admitting}
 use Rattle.spec_box.specs.Shares.{AllSendable}
-use Rattle.spec_box.specs.Certified.{deliveredOn, over_farms, Certified, ReadingsCertified, ReadingsCertifiedByLabels, LedgersReadable, Certificate, CertificateByLabels}
+use Rattle.spec_box.specs.Certified.{delivered_on, over_farms, Certified, ReadingsCertified, ReadingsCertifiedByLabels, LedgersReadable, Certificate, CertificateByLabels}
 use Rattle.theory_box.proofs.PaperMachines.{Follows, terms_follow, labels_follow}
 use Rattle.theory_box.proofs.PaperBoxes.{totals_on, every_sequence, box_on_paper, box_by_labels}
 use Rattle.theory_box.proofs.PaperAdmissions.{same-reading}
@@ -61,17 +61,17 @@ reading_certified held t h =
 module _ {S T R : Type 0} (m : Follows S T R) (xs : List Request) (k : AllSendable xs) (a : Admitting m.For xs) (bay : ℕ) where
   -- what a machine delivered is what the box holds
   delivered-is-held : bay < bay_count → (farm : ℕ) → farm < farm_count
-      → total_in farm (ledger_in (stretch_of bay (box_after call_of empty_box xs))) ≡ deliveredOn m.kind bay xs farm
+      → total_in farm (ledger_in (stretch_of bay (box_after call_of empty_box xs))) ≡ delivered_on m.kind bay xs farm
   unfolding sum_of
   delivered-is-held b farm l = totals_on m xs k a bay b farm l ∙ totals-are-sums m.kind bay b farm empty_paper [] refl xs
 
   certified : (buffer : List ℕ) → number (call_of (box_after call_of empty_box xs) bay (ledger buffer)) ≡ 0
-      → Certified (deliveredOn m.kind bay xs) (first (lent_after (call_of (box_after call_of empty_box xs) bay (ledger buffer))))
+      → Certified (delivered_on m.kind bay xs) (first (lent_after (call_of (box_after call_of empty_box xs) bay (ledger buffer))))
   certified buffer n =
       let box = box_after call_of empty_box xs in
       let s = ledger_shows box bay buffer n in
-      subst (Certified (deliveredOn m.kind bay xs)) (sym (ap (λ (o : Called). first (lent_after o)) s.1 ∙ s.2.bytes))
-      (reading_certified (ledger_in (stretch_of bay box)) (deliveredOn m.kind bay xs) (delivered-is-held (answered-inside box bay (ledger buffer) n).0))
+      subst (Certified (delivered_on m.kind bay xs)) (sym (ap (λ (o : Called). first (lent_after o)) s.1 ∙ s.2.bytes))
+      (reading_certified (ledger_in (stretch_of bay box)) (delivered_on m.kind bay xs) (delivered-is-held (answered-inside box bay (ledger buffer) n).0))
 
 -- THE CERTIFICATE
 pub readings_certified : ReadingsCertified call_of

@@ -25,9 +25,9 @@ use Rattle.spec_bay.specs.Stretch.{Terms}
 use Rattle.spec_box.specs.Box.{Call, admit, release, tick, save, restore, forget, service, panel, preview, ledger, new_year, buffers}
 use Rattle.spec_box.specs.Lists.{Request, calls_to}
 use Rattle.spec_box.specs.Years.{sum_of}
-use Rattle.spec_box.specs.PaperBox.{BayMachine, PaperBay, PaperPlace, PaperBox, PaperReply, Reported, ticked, replies, down, holds, shows, with_machine, present_on, program_of, freshBay, admitOn, addsOn, tick_on, renamedOn, saveOn, restoreOn, previewedOn, previewOn, sized, placeCall, withPlace, paperCall, answer_seen}
+use Rattle.spec_box.specs.PaperBox.{BayMachine, PaperBay, PaperPlace, PaperBox, PaperReply, Reported, ticked, replies, down, holds, shows, with_machine, present_on, program_of, fresh_bay, admit_on, adds_on, tick_on, renamed_on, save_on, restore_on, previewed_on, preview_on, sized, place_call, with_place, paper_call, answer_seen}
 use Rattle.spec_box.specs.Reports.{paper_after}
-use Rattle.spec_box.specs.Certified.{deliveriesAfter, deliveriesOver}
+use Rattle.spec_box.specs.Certified.{deliveries_after, deliveries_over}
 
 -- ---- the totals on paper are the sums of what was delivered
 module _ {S T R : Type 0} (m : BayMachine S T R) (f k : ℕ) (totals : ℕ → ℕ) (ds : List ℕ) (h : totals f ≡ sum_of ds) where
@@ -36,22 +36,22 @@ module _ {S T R : Type 0} (m : BayMachine S T R) (f k : ℕ) (totals : ℕ → �
 
   -- the farm's total after a call is the sum of the deliveries after it
   abbrev Told : Call → Option (PaperBay S T) → PaperReply S T R → Type 0
-  Told c b o = o.1.totals f ≡ sum_of (deliveriesAfter m f c o.0 b ds)
+  Told c b o = o.1.totals f ≡ sum_of (deliveries_after m f c o.0 b ds)
 
-  admit-told : (t : Terms) (b : Option (PaperBay S T)) → Told (admit t) b (placeCall m k (admit t) (record { bay = b; totals = totals }))
+  admit-told : (t : Terms) (b : Option (PaperBay S T)) → Told (admit t) b (place_call m k (admit t) (record { bay = b; totals = totals }))
   admit-told t (some b) = h
   admit-told t none = go (checked t.sequence t.read_back)
     where
-      by_sum : (p : Statement) (c : Bool) → Told (admit t) none (cond c (holds (place none) (some (freshBay m t p))) (down 14 [] (place none)))
+      by_sum : (p : Statement) (c : Bool) → Told (admit t) none (cond c (holds (place none) (some (fresh_bay m t p))) (down 14 [] (place none)))
       by_sum p true = h
       by_sum p false = h
 
-      go : (c : Checked) → Told (admit t) none (admitOn m k (place none) t c)
+      go : (c : Checked) → Told (admit t) none (admit_on m k (place none) t c)
       go (bad n) = h
       go (sound p) = by_sum p (leb (k + ceiling (program t.read_back p)) shared_ceiling)
 
   tick-told : (e : ℕ) (answer trace : List ℕ) (b : Option (PaperBay S T))
-      → Told (tick e answer trace) b (placeCall m k (tick e answer trace) (record { bay = b; totals = totals }))
+      → Told (tick e answer trace) b (place_call m k (tick e answer trace) (record { bay = b; totals = totals }))
   unfolding sum_of
   tick-told e answer trace none = h
   tick-told e answer trace (some b) =
@@ -59,7 +59,7 @@ module _ {S T R : Type 0} (m : BayMachine S T R) (f k : ℕ) (totals : ℕ → �
     where
       passing : (x : R) (n : ℕ) (c : Bool) → Told (tick e answer trace) (some b)
           (cond c (down 19 (answer ∷ trace ∷ []) (place (some b)))
-          (ticked x, record { bay = some (with_machine b (m.react (program_of b) b.machine e).1 n); totals = λ g. totals g + addsOn m b e g }))
+          (ticked x, record { bay = some (with_machine b (m.react (program_of b) b.machine e).1 n); totals = λ g. totals g + adds_on m b e g }))
       passing x n true = h
       passing x n false = omega (arith, h)
 
@@ -68,7 +68,7 @@ module _ {S T R : Type 0} (m : BayMachine S T R) (f k : ℕ) (totals : ℕ → �
       seen refused = h
       seen (instant c x o n after) =
           passing (m.tells (instant c x o n after) (m.react (program_of b) b.machine e).1 (following b.last) e) (following b.last)
-          (would_pass farm_count totals (addsOn m b e))
+          (would_pass farm_count totals (adds_on m b e))
 
       long : (c : Bool) (x : Seen) → Told (tick e answer trace) (some b)
           (sized m c (answer ∷ trace ∷ []) (place (some b)) (tick_on m (place (some b)) b e (answer ∷ trace ∷ []) x (m.react (program_of b) b.machine e).1))
@@ -76,22 +76,22 @@ module _ {S T R : Type 0} (m : BayMachine S T R) (f k : ℕ) (totals : ℕ → �
       long false x = h
 
   -- positions: a bay with others, or the same
-  renamed-told : (b : PaperBay S T) (x : Answered T) → (renamedOn m (record { bay = some b; totals = totals }) b x).1.totals f ≡ sum_of ds
+  renamed-told : (b : PaperBay S T) (x : Answered T) → (renamed_on m (record { bay = some b; totals = totals }) b x).1.totals f ≡ sum_of ds
   renamed-told b (answered n ps) = h
 
-  save-told : (name : ℕ) (b : Option (PaperBay S T)) → Told (save name) b (placeCall m k (save name) (record { bay = b; totals = totals }))
+  save-told : (name : ℕ) (b : Option (PaperBay S T)) → Told (save name) b (place_call m k (save name) (record { bay = b; totals = totals }))
   save-told name none = h
   save-told name (some b) = go (m.kept b.machine)
     where
-      go : (t : Option T) → Told (save name) (some b) (saveOn m (place (some b)) b name t)
+      go : (t : Option T) → Told (save name) (some b) (save_on m (place (some b)) b name t)
       go none = h
       go (some t) = renamed-told b (save_named name t b.positions)
 
-  restore-told : (name : ℕ) (b : Option (PaperBay S T)) → Told (restore name) b (placeCall m k (restore name) (record { bay = b; totals = totals }))
+  restore-told : (name : ℕ) (b : Option (PaperBay S T)) → Told (restore name) b (place_call m k (restore name) (record { bay = b; totals = totals }))
   restore-told name none = h
   restore-told name (some b) = go (find name b.positions)
     where
-      go : (t : Option T) → Told (restore name) (some b) (restoreOn m (place (some b)) b t)
+      go : (t : Option T) → Told (restore name) (some b) (restore_on m (place (some b)) b t)
       go none = h
       go (some t) = h
 
@@ -102,16 +102,16 @@ module _ {S T R : Type 0} (m : BayMachine S T R) (f k : ℕ) (totals : ℕ → �
   read_told b false lent bytes = h
 
   preview-told : (b : PaperBay S T) (e u : ℕ) (buffer : List ℕ) (c : Bool) (x : Seen)
-      → (sized m c (buffer ∷ []) (record { bay = some b; totals = totals }) (previewOn m (record { bay = some b; totals = totals }) b e u buffer x)).1.totals f
+      → (sized m c (buffer ∷ []) (record { bay = some b; totals = totals }) (preview_on m (record { bay = some b; totals = totals }) b e u buffer x)).1.totals f
       ≡ sum_of ds
   preview-told b e u buffer false x = h
   preview-told b e u buffer true refused = h
   preview-told b e u buffer true (instant k x o n after) = go (shown_by (λ i. answer_seen (m.react (program_of b) b.machine i).0) e u buffer)
     where
-      go : (x : Previewed) → (previewedOn m (record { bay = some b; totals = totals }) x).1.totals f ≡ sum_of ds
+      go : (x : Previewed) → (previewed_on m (record { bay = some b; totals = totals }) x).1.totals f ≡ sum_of ds
       go (previewed n bytes) = h
 
-  place-told : (c : Call) (b : Option (PaperBay S T)) → Told c b (placeCall m k c (record { bay = b; totals = totals }))
+  place-told : (c : Call) (b : Option (PaperBay S T)) → Told c b (place_call m k c (record { bay = b; totals = totals }))
   unfolding sum_of
   place-told (admit t) b = admit-told t b
   place-told release none = h
@@ -136,32 +136,32 @@ module _ {S T R : Type 0} (m : BayMachine S T R) (f k : ℕ) (totals : ℕ → �
 -- over a list of calls
 module _ {S T R : Type 0} (m : BayMachine S T R) (bay : ℕ) (small : bay < bay_count) (f : ℕ) where
   own-total : (box : PaperBox S T) (ds : List ℕ) → (box bay).totals f ≡ sum_of ds → (c : Call)
-      → ((paperCall m box bay c).1 bay).totals f ≡ sum_of (deliveriesAfter m f c (paperCall m box bay c).0 (box bay).bay ds)
+      → ((paper_call m box bay c).1 bay).totals f ≡ sum_of (deliveries_after m f c (paper_call m box bay c).0 (box bay).bay ds)
   own-total box ds h c =
       rw (lt-ltb bay bay_count small, eq-eqb bay bay refl) (place-told m f (present_on bay_count box) (box bay).totals ds h c (box bay).bay)
 
-  other-total : (box : PaperBox S T) (j : ℕ) (c : Call) → (j ≡ bay → ⊥) → ((paperCall m box j c).1 bay).totals f ≡ (box bay).totals f
+  other-total : (box : PaperBox S T) (j : ℕ) (c : Call) → (j ≡ bay → ⊥) → ((paper_call m box j c).1 bay).totals f ≡ (box bay).totals f
   other-total box j c q = go (ltb j bay_count)
     where
       told : PaperReply S T R
-      told = placeCall m (present_on bay_count box) c (box j)
+      told = place_call m (present_on bay_count box) c (box j)
 
-      go : (b : Bool) → ((cond {A = Reported R × PaperBox S T} b (told.0, withPlace m box j told.1) (replies 13 (buffers c), box)).1 bay).totals f ≡ (box bay).totals f
+      go : (b : Bool) → ((cond {A = Reported R × PaperBox S T} b (told.0, with_place m box j told.1) (replies 13 (buffers c), box)).1 bay).totals f ≡ (box bay).totals f
       go true = rw (ne_eqb bay j (λ e. q (sym e)))
       go false = refl
 
   -- THE TOTALS ON PAPER are the sums of what was delivered
   pub totals-are-sums : (box : PaperBox S T) (ds : List ℕ) → (box bay).totals f ≡ sum_of ds → (xs : List Request)
-      → (paper_after m box xs bay).totals f ≡ sum_of (deliveriesOver m bay f box ds xs)
-  unfolding paper_after deliveriesOver calls_to
+      → (paper_after m box xs bay).totals f ≡ sum_of (deliveries_over m bay f box ds xs)
+  unfolding paper_after deliveries_over calls_to
   totals-are-sums box ds h [] = h
   totals-are-sums box ds h (x ∷ xs) =
       elim (ℕ_discrete x.bay bay) [
         | yes q ↦ subst (λ (j : ℕ).
-            (paper_after m (paperCall m box j x.call).1 xs bay).totals f
-            ≡ sum_of (deliveriesOver m bay f box ds (record { bay = j; call = x.call } ∷ xs))) (sym q)
+            (paper_after m (paper_call m box j x.call).1 xs bay).totals f
+            ≡ sum_of (deliveries_over m bay f box ds (record { bay = j; call = x.call } ∷ xs))) (sym q)
             (rw (eq-eqb bay bay refl)
-            (totals-are-sums (paperCall m box bay x.call).1 (deliveriesAfter m f x.call (paperCall m box bay x.call).0 (box bay).bay ds)
+            (totals-are-sums (paper_call m box bay x.call).1 (deliveries_after m f x.call (paper_call m box bay x.call).0 (box bay).bay ds)
             (own-total box ds h x.call) xs))
-        | no q ↦ rw (ne_eqb x.bay bay q) (totals-are-sums (paperCall m box x.bay x.call).1 ds (other-total box x.bay x.call q ∙ h) xs)
+        | no q ↦ rw (ne_eqb x.bay bay q) (totals-are-sums (paper_call m box x.bay x.call).1 ds (other-total box x.bay x.call q ∙ h) xs)
       ]

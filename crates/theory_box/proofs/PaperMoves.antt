@@ -34,11 +34,11 @@ use Rattle.theory_box.proofs.Moves.{Moved, refused, stored, moved-refused, save-
 use Rattle.theory_box.proofs.Bays.{ceiling_for, bounds}
 use Rattle.theory_box.proofs.Standing.{behind-stands}
 use Rattle.theory_box.proofs.Positions.{Positioned, table-after, positioned-after, save-waiting, save-otherwise, forget_number, restore-known, restore-unknown}
-use Rattle.spec_box.specs.PaperBox.{PaperPlace, replies, PaperReply, down, holds, shows, with_machine, with_positions, renamedOn, saveOn, restoreOn, sized}
+use Rattle.spec_box.specs.PaperBox.{PaperPlace, replies, PaperReply, down, holds, shows, with_machine, with_positions, renamed_on, save_on, restore_on, sized}
 use Rattle.spec_box.specs.Reports.{reported}
 use Rattle.theory_box.proofs.PaperMachines.{Follows}
-use Rattle.theory_box.proofs.PaperNames.{mapped, keptIf, mappedAnswer, find-kept, save-kept, forget-kept}
-use Rattle.theory_box.proofs.PaperAlike.{Present, standing, bayOf, SameTotals, Alike, vacant, present, Same, refusal_reported, same-down, same-answered, totals_after}
+use Rattle.theory_box.proofs.PaperNames.{mapped, kept_if, mapped_answer, find-kept, save-kept, forget-kept}
+use Rattle.theory_box.proofs.PaperAlike.{Present, standing, bay_of, SameTotals, Alike, vacant, present, Same, refusal_reported, same-down, same-answered, totals_after}
 
 -- what is written behind the number leaves it
 pub count_behind : {s : List ℕ} {o : Called} → length s ≡ stretch_length → Moved positions_at s o → last_number_in (memory_after o) ≡ last_number_in s
@@ -62,7 +62,7 @@ phases : (phase_in (encode_state State.fresh) ≢ 1) × (phase_in (encode_state 
 unfolding encode_state
 phases = (λ x. omega arith, λ x. omega arith)
 
-module _ {S T R : Type 0} (m : Follows S T R) (k : ℕ) (s : List ℕ) (z : PaperPlace S T) (h : Present m s) (e : z.bay ≡ some (bayOf m h)) (t : SameTotals s z.totals) where
+module _ {S T R : Type 0} (m : Follows S T R) (k : ℕ) (s : List ℕ) (z : PaperPlace S T) (h : Present m s) (e : z.bay ≡ some (bay_of m h)) (t : SameTotals s z.totals) where
   abbrev long : length s ≡ stretch_length
   long = h.holds.sized
 
@@ -149,12 +149,12 @@ module _ {S T R : Type 0} (m : Follows S T R) (k : ℕ) (s : List ℕ) (z : Pape
 
   -- a save or a forget that is turned down leaves the positions
   same_names : (c : Call) (n : ℕ) → n ≢ 0 → bay_call k c s ≡ called n s []
-      → Same m c (bay_call k c s) (renamedOn m.kind z (bayOf m h) (answered n (mapped (m.kept_of (program h.terms.read_back h.accepted.statement)) h.names)))
+      → Same m c (bay_call k c s) (renamed_on m.kind z (bay_of m h) (answered n (mapped (m.kept_of (program h.terms.read_back h.accepted.statement)) h.names)))
   same_names c n y w =
-      subst (λ (o : Called). Same m c o (renamedOn m.kind z (bayOf m h) (answered n (mapped g h.names)))) (sym w)
+      subst (λ (o : Called). Same m c o (renamed_on m.kind z (bay_of m h) (answered n (mapped g h.names)))) (sym w)
       (record {
         report = refusal_reported m.kind.reads c n y s [];
-        alike = present h (ap (λ (ps : List (Position T)). some (with_positions (bayOf m h) ps)) (sym h.saved)) t;
+        alike = present h (ap (λ (ps : List (Position T)). some (with_positions (bay_of m h) ps)) (sym h.saved)) t;
       })
 
   -- one that is answered 0 has these positions
@@ -162,9 +162,9 @@ module _ {S T R : Type 0} (m : Follows S T R) (k : ℕ) (s : List ℕ) (z : Pape
       → reported m.kind.reads c (called 0 (memory_after (bay_call k c s)) []) ≡ replies 0 []
       → (ps : List (Position ℕ)) → Agrees (positions_in (memory_after (bay_call k c s))) ps
       → SameTotals (memory_after (bay_call k c s)) z.totals
-      → Same m c (bay_call k c s) (renamedOn m.kind z (bayOf m h) (answered 0 (mapped (m.kept_of (program h.terms.read_back h.accepted.statement)) ps)))
+      → Same m c (bay_call k c s) (renamed_on m.kind z (bay_of m h) (answered 0 (mapped (m.kept_of (program h.terms.read_back h.accepted.statement)) ps)))
   other-names c r v n i ps a u =
-      same-answered m c (memory_after (bay_call k c s)) (record { bay = some (with_positions (bayOf m h) (mapped g ps)); totals = z.totals }) [] (replies 0 []) i
+      same-answered m c (memory_after (bay_call k c s)) (record { bay = some (with_positions (bay_of m h) (mapped g ps)); totals = z.totals }) [] (replies 0 []) i
       (present (behind c r v ps a (mapped g ps) refl) refl u)
       (answered_moved v n) refl
 
@@ -194,7 +194,7 @@ module _ {S T R : Type 0} (m : Follows S T R) (k : ℕ) (s : List ℕ) (z : Pape
       number_is = save-waiting s name waiting ∙ ap (λ (l : ℕ). number_kept (save_of name l (positions_in s))) labels ∙ agreed.0
 
       by-test : (b : Bool) → save_named name L h.names ≡ cond b (answered 0 (position name L ∷ without name h.names)) (answered 16 h.names)
-          → Same m (save name) (bay_save_of s name) (renamedOn m.kind z (bayOf m h) (mappedAnswer (m.kept_of (program h.terms.read_back h.accepted.statement))
+          → Same m (save name) (bay_save_of s name) (renamed_on m.kind z (bay_of m h) (mapped_answer (m.kept_of (program h.terms.read_back h.accepted.statement))
           (cond b (answered 0 (position name L ∷ without name h.names)) (answered 16 h.names))))
       by-test true w =
           let n : number (bay_save_of s name) ≡ 0 = number_is ∙ ap number_answered w in
@@ -208,22 +208,22 @@ module _ {S T R : Type 0} (m : Follows S T R) (k : ℕ) (s : List ℕ) (z : Pape
           (turned_down (save name) 16 (λ x. omega arith) (save-moved s name) (number_is ∙ ap number_answered w))
 
       waiting-same : Same m (save name) (bay_save_of s name)
-          (saveOn m.kind z (bayOf m h) name (some (m.kept_of (program h.terms.read_back h.accepted.statement) L)))
+          (save_on m.kind z (bay_of m h) name (some (m.kept_of (program h.terms.read_back h.accepted.statement) L)))
       unfolding save_named
       waiting-same =
-          subst (λ (x : Answered T). Same m (save name) (bay_save_of s name) (renamedOn m.kind z (bayOf m h) x))
+          subst (λ (x : Answered T). Same m (save name) (bay_save_of s name) (renamed_on m.kind z (bay_of m h) x))
           (sym (ap (save_named name (g L)) h.saved ∙ save-kept g name L h.names))
           (by-test (is_known (find name h.names) || ltb (length h.names) max_positions) refl)
 
-    pub save-same : Same m (save name) (bay_save_of s name) (saveOn m.kind z (bayOf m h) name (m.kind.kept h.machine))
+    pub save-same : Same m (save name) (bay_save_of s name) (save_on m.kind z (bay_of m h) name (m.kind.kept h.machine))
     save-same = go h.state refl h.at
       where
-        kept-as : (o : Option T) → m.kind.kept h.machine ≡ o → Same m (save name) (bay_save_of s name) (saveOn m.kind z (bayOf m h) name o)
-            → Same m (save name) (bay_save_of s name) (saveOn m.kind z (bayOf m h) name (m.kind.kept h.machine))
-        kept-as o i x = subst (λ (o : Option T). Same m (save name) (bay_save_of s name) (saveOn m.kind z (bayOf m h) name o)) (sym i) x
+        kept-as : (o : Option T) → m.kind.kept h.machine ≡ o → Same m (save name) (bay_save_of s name) (save_on m.kind z (bay_of m h) name o)
+            → Same m (save name) (bay_save_of s name) (save_on m.kind z (bay_of m h) name (m.kind.kept h.machine))
+        kept-as o i x = subst (λ (o : Option T). Same m (save name) (bay_save_of s name) (save_on m.kind z (bay_of m h) name o)) (sym i) x
 
         go : (st : State) → h.state ≡ st → m.At (program h.terms.read_back h.accepted.statement) st h.machine
-            → Same m (save name) (bay_save_of s name) (saveOn m.kind z (bayOf m h) name (m.kind.kept h.machine))
+            → Same m (save name) (bay_save_of s name) (save_on m.kind z (bay_of m h) name (m.kind.kept h.machine))
         go State.fresh i j = kept-as none (m.kept_fresh q h.machine j) (not-waiting State.fresh i phases.0)
         go (State.waits L) i j = kept-as (some (g L)) (m.kept_waits q L h.machine j) (waiting-same L i)
         go State.over i j = kept-as none (m.kept_over q h.machine j) (not-waiting State.over i phases.1)
@@ -237,7 +237,7 @@ module _ {S T R : Type 0} (m : Follows S T R) (k : ℕ) (s : List ℕ) (z : Pape
     forget_is = forget_number s name ∙ agreed-on.0
 
     forgets : (b : Bool) → forget_named name h.names ≡ cond b (answered 0 (without name h.names)) (answered 15 h.names)
-        → Same m (forget name) (bay_forget_of s name) (renamedOn m.kind z (bayOf m h) (mappedAnswer (m.kept_of (program h.terms.read_back h.accepted.statement))
+        → Same m (forget name) (bay_forget_of s name) (renamed_on m.kind z (bay_of m h) (mapped_answer (m.kept_of (program h.terms.read_back h.accepted.statement))
         (cond b (answered 0 (without name h.names)) (answered 15 h.names))))
     forgets true w =
         let n : number (bay_forget_of s name) ≡ 0 = forget_is ∙ ap number_answered w in
@@ -249,19 +249,19 @@ module _ {S T R : Type 0} (m : Follows S T R) (k : ℕ) (s : List ℕ) (z : Pape
         same_names (forget name) 15 (λ x. omega arith)
         (turned_down (forget name) 15 (λ x. omega arith) (forget-moved s name) (forget_is ∙ ap number_answered w))
 
-    pub forget-same : Same m (forget name) (bay_forget_of s name) (renamedOn m.kind z (bayOf m h) (forget_named name h.positions))
+    pub forget-same : Same m (forget name) (bay_forget_of s name) (renamed_on m.kind z (bay_of m h) (forget_named name h.positions))
     unfolding forget_named
     forget-same =
-        subst (λ (x : Answered T). Same m (forget name) (bay_forget_of s name) (renamedOn m.kind z (bayOf m h) x))
+        subst (λ (x : Answered T). Same m (forget name) (bay_forget_of s name) (renamed_on m.kind z (bay_of m h) x))
         (sym (ap (forget_named name) h.saved ∙ forget-kept g name h.names))
         (forgets (is_known (find name h.names)) refl)
 
     -- coming back
-    found : find name h.positions ≡ keptIf (m.kept_of (program h.terms.read_back h.accepted.statement)) (find name h.names)
+    found : find name h.positions ≡ kept_if (m.kept_of (program h.terms.read_back h.accepted.statement)) (find name h.names)
     found = ap (find name) h.saved ∙ find-kept g name h.names
 
     restores : (o : Option ℕ) → lookup name (positions_in s) ≡ o
-        → Same m (restore name) (bay_restore_of s name) (restoreOn m.kind z (bayOf m h) (keptIf (m.kept_of (program h.terms.read_back h.accepted.statement)) o))
+        → Same m (restore name) (bay_restore_of s name) (restore_on m.kind z (bay_of m h) (kept_if (m.kept_of (program h.terms.read_back h.accepted.statement)) o))
     restores none w = same-down m (restore name) s z same 15 (λ x. omega arith) [] (restore-unknown s name w) refl
     restores (some L) w =
         let back = restore-known s name L w in
@@ -291,12 +291,12 @@ module _ {S T R : Type 0} (m : Follows S T R) (k : ℕ) (s : List ℕ) (z : Pape
           saved = h.saved;
         } in
         same-answered m (restore name) after
-        (record { bay = some (with_machine (bayOf m h) (m.kind.back (g L)) h.last); totals = z.totals }) [] (replies 0 []) refl
+        (record { bay = some (with_machine (bay_of m h) (m.kind.back (g L)) h.last); totals = z.totals }) [] (replies 0 []) refl
         (present next refl
         (λ f i. sym (ap (λ (o : Called). total_in f (ledger_in (memory_after o))) back) ∙ totals_after k s long z.totals t (restore name) n f i))
         back refl
 
-    pub restore_same : Same m (restore name) (bay_restore_of s name) (restoreOn m.kind z (bayOf m h) (find name h.positions))
+    pub restore_same : Same m (restore name) (bay_restore_of s name) (restore_on m.kind z (bay_of m h) (find name h.positions))
     restore_same =
-        subst (λ (o : Option T). Same m (restore name) (bay_restore_of s name) (restoreOn m.kind z (bayOf m h) o)) (sym found)
+        subst (λ (o : Option T). Same m (restore name) (bay_restore_of s name) (restore_on m.kind z (bay_of m h) o)) (sym found)
         (restores (find name h.names) (h.agrees.alike name))

@@ -14,24 +14,24 @@ module _ {T : Type 0} (g : ℕ → T) where
   mapped [] = []
   mapped (position n labels ∷ ps) = position n (g labels) ∷ mapped ps
 
-  abbrev pub keptIf : Option ℕ → Option T
-  keptIf none = none
-  keptIf (some labels) = some (g labels)
+  abbrev pub kept_if : Option ℕ → Option T
+  kept_if none = none
+  kept_if (some labels) = some (g labels)
 
-  abbrev pub mappedAnswer : Answered ℕ → Answered T
-  mappedAnswer (answered n ps) = answered n (mapped ps)
+  abbrev pub mapped_answer : Answered ℕ → Answered T
+  mapped_answer (answered n ps) = answered n (mapped ps)
 
-  known_kept : (o : Option ℕ) → is_known (keptIf o) ≡ is_known o
+  known_kept : (o : Option ℕ) → is_known (kept_if o) ≡ is_known o
   known_kept none = refl
   known_kept (some labels) = refl
 
-  pub find-kept : (name : ℕ) (ps : List (Position ℕ)) → find name (mapped ps) ≡ keptIf (find name ps)
+  pub find-kept : (name : ℕ) (ps : List (Position ℕ)) → find name (mapped ps) ≡ kept_if (find name ps)
   unfolding mapped find
   find-kept name [] = refl
   find-kept name (position n labels ∷ ps) = go (eqb n name) (find-kept name ps)
     where
-      go : (b : Bool) → find name (mapped ps) ≡ keptIf (find name ps)
-          → cond b (some (g labels)) (find name (mapped ps)) ≡ keptIf (cond b (some labels) (find name ps))
+      go : (b : Bool) → find name (mapped ps) ≡ kept_if (find name ps)
+          → cond b (some (g labels)) (find name (mapped ps)) ≡ kept_if (cond b (some labels) (find name ps))
       go true r = refl
       go false r = r
 
@@ -56,22 +56,22 @@ module _ {T : Type 0} (g : ℕ → T) where
   nil-kept = refl
 
   -- a save and a forget
-  pub save-kept : (name labels : ℕ) (ps : List (Position ℕ)) → save_named name (g labels) (mapped ps) ≡ mappedAnswer (save_named name labels ps)
+  pub save-kept : (name labels : ℕ) (ps : List (Position ℕ)) → save_named name (g labels) (mapped ps) ≡ mapped_answer (save_named name labels ps)
   unfolding mapped save_named
   save-kept name labels ps =
       rw (find-kept name ps, known_kept (find name ps), length-kept ps, without-kept name ps)
       (go (is_known (find name ps) || ltb (length ps) max_positions))
     where
       go : (b : Bool) → cond b (answered 0 (position name (g labels) ∷ mapped (without name ps))) (answered 16 (mapped ps))
-          ≡ mappedAnswer (cond b (answered 0 (position name labels ∷ without name ps)) (answered 16 ps))
+          ≡ mapped_answer (cond b (answered 0 (position name labels ∷ without name ps)) (answered 16 ps))
       go true = refl
       go false = refl
 
-  pub forget-kept : (name : ℕ) (ps : List (Position ℕ)) → forget_named name (mapped ps) ≡ mappedAnswer (forget_named name ps)
+  pub forget-kept : (name : ℕ) (ps : List (Position ℕ)) → forget_named name (mapped ps) ≡ mapped_answer (forget_named name ps)
   unfolding forget_named
   forget-kept name ps = rw (find-kept name ps, known_kept (find name ps), without-kept name ps) (go (is_known (find name ps)))
     where
       go : (b : Bool) → cond b (answered 0 (mapped (without name ps))) (answered 15 (mapped ps))
-          ≡ mappedAnswer (cond b (answered 0 (without name ps)) (answered 15 ps))
+          ≡ mapped_answer (cond b (answered 0 (without name ps)) (answered 15 ps))
       go true = refl
       go false = refl

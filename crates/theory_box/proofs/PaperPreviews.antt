@@ -27,11 +27,11 @@ use Rattle.spec_bay.specs.Stretch.{state_in}
 use Rattle.spec_bay.specs.BayCalls.{stretch_kept, bay_preview_of}
 use Rattle.spec_box.specs.Box.{preview}
 use Rattle.theory_box.proofs.Standing.{sequence-held}
-use Rattle.spec_box.specs.PaperBox.{answer_seen, PaperBay, PaperPlace, previewedOn, previewOn, sized}
+use Rattle.spec_box.specs.PaperBox.{answer_seen, PaperBay, PaperPlace, previewed_on, preview_on, sized}
 use Rattle.theory_box.proofs.PaperMachines.{Follows, answer-is}
-use Rattle.theory_box.proofs.PaperAlike.{Present, standing, bayOf, SameTotals, present, Same}
+use Rattle.theory_box.proofs.PaperAlike.{Present, standing, bay_of, SameTotals, present, Same}
 
-module _ {S T R : Type 0} (m : Follows S T R) (s : List ℕ) (z : PaperPlace S T) (h : Present m s) (bay : z.bay ≡ some (bayOf m h))
+module _ {S T R : Type 0} (m : Follows S T R) (s : List ℕ) (z : PaperPlace S T) (h : Present m s) (bay : z.bay ≡ some (bay_of m h))
     (t : SameTotals s z.totals) (e u : ℕ) (buffer : List ℕ) where
   abbrev q : Statement
   q = program h.terms.read_back h.accepted.statement
@@ -43,7 +43,7 @@ module _ {S T R : Type 0} (m : Follows S T R) (s : List ℕ) (z : PaperPlace S T
   set = h.terms.read_back
 
   abbrev b : PaperBay S T
-  b = bayOf m h
+  b = bay_of m h
 
   -- ---- the reply, by the state
   reply-at : (i : ℕ) → reply_of h.terms.sequence (encode_state h.state) i h.terms.read_back
@@ -66,9 +66,9 @@ module _ {S T R : Type 0} (m : Follows S T R) (s : List ℕ) (z : PaperPlace S T
       ∙ ap (λ (st : List ℕ). stretch_kept s (preview_of sequence st e u set buffer)) h.bytes
 
   previewed-same : (x : Previewed) → preview_of h.terms.sequence (encode_state h.state) e u h.terms.read_back buffer ≡ x
-      → Same m (preview e u buffer) (bay_preview_of s e u buffer) (previewedOn m.kind z x)
+      → Same m (preview e u buffer) (bay_preview_of s e u buffer) (previewed_on m.kind z x)
   previewed-same (previewed n bytes) w =
-      subst (λ (o : Called). Same m (preview e u buffer) o (previewedOn m.kind z (previewed n bytes))) (sym (held-is ∙ ap (stretch_kept s) w))
+      subst (λ (o : Called). Same m (preview e u buffer) o (previewed_on m.kind z (previewed n bytes))) (sym (held-is ∙ ap (stretch_kept s) w))
       (record { report = refl; alike = present h bay t })
 
   -- what the machine sees of the given input says whether it is over
@@ -79,14 +79,14 @@ module _ {S T R : Type 0} (m : Follows S T R) (s : List ℕ) (z : PaperPlace S T
   module _ (right : length buffer ≡ preview_length) where
     running : (x : Instant) → byState inheritanceFirst (program h.terms.read_back h.accepted.statement) (holds h.state) (difference e u) ≡ reacts x
         → (r : Reaction) (y : Option Error) (n : ℕ)
-        → Same m (preview e u buffer) (bay_preview_of s e u buffer) (previewOn m.kind z (bayOf m h) e u buffer (seen r y n))
+        → Same m (preview e u buffer) (bay_preview_of s e u buffer) (preview_on m.kind z (bay_of m h) e u buffer (seen r y n))
     running x i (gives o k l t) y n =
         previewed-same (shown_by (λ i. answer_seen (m.kind.react (program h.terms.read_back h.accepted.statement) h.machine i).0) e u buffer)
         (shown-preview sequence (encode_state h.state) set e u buffer right x (reply-at (difference e u) ∙ i)
         ∙ ap (λ (answers : ℕ → List ℕ). shown_by answers e u buffer) answers-are)
 
     by_state : (st : State) → h.state ≡ st → Same m (preview e u buffer) (bay_preview_of s e u buffer)
-        (previewOn m.kind z (bayOf m h) e u buffer (by_labels (program h.terms.read_back h.accepted.statement) st e).0)
+        (preview_on m.kind z (bay_of m h) e u buffer (by_labels (program h.terms.read_back h.accepted.statement) st e).0)
     by_state State.fresh i =
         running (start q (difference e u)) (ap (λ (st : State). byState inheritanceFirst q (holds st) (difference e u)) i) (react q e) (first_error q e) (reactions q e)
     by_state (State.waits L) i =
@@ -98,13 +98,13 @@ module _ {S T R : Type 0} (m : Follows S T R) (s : List ℕ) (z : PaperPlace S T
         (reply-at (difference e u) ∙ ap (λ (st : State). byState inheritanceFirst q (holds st) (difference e u)) i))
 
     sized_same : Same m (preview e u buffer) (bay_preview_of s e u buffer)
-        (previewOn m.kind z (bayOf m h) e u buffer (m.kind.react (program h.terms.read_back h.accepted.statement) h.machine e).0)
+        (preview_on m.kind z (bay_of m h) e u buffer (m.kind.react (program h.terms.read_back h.accepted.statement) h.machine e).0)
     sized_same =
-        subst (λ (x : Seen). Same m (preview e u buffer) (bay_preview_of s e u buffer) (previewOn m.kind z b e u buffer x)) (follows e) (by_state h.state refl)
+        subst (λ (x : Seen). Same m (preview e u buffer) (bay_preview_of s e u buffer) (preview_on m.kind z b e u buffer x)) (follows e) (by_state h.state refl)
 
   pub preview-same : Same m (preview e u buffer) (bay_preview_of s e u buffer)
       (sized m.kind (eqb (length buffer) preview_length) (buffer ∷ []) z
-      (previewOn m.kind z (bayOf m h) e u buffer (m.kind.react (program h.terms.read_back h.accepted.statement) h.machine e).0))
+      (preview_on m.kind z (bay_of m h) e u buffer (m.kind.react (program h.terms.read_back h.accepted.statement) h.machine e).0))
   preview-same =
       elim (ℕ_discrete (length buffer) preview_length) [
         | yes i ↦ rw (eq-eqb (length buffer) preview_length i) (sized_same i)

@@ -40,9 +40,9 @@ use Rattle.theory_box.proofs.Ticks.{Ticked, ticked, entered, length-entered}
 use Rattle.theory_box.proofs.Standing.{inner-is, sequence-held, tick-stands}
 use Rattle.theory_box.proofs.Positions.{table-after, positioned-after}
 use Rattle.spec_box.specs.PaperBox as paper
-use Rattle.spec_box.specs.PaperBox.{PaperPlace, PaperReply, down, with_machine, addsOn, tick_on, sized}
+use Rattle.spec_box.specs.PaperBox.{PaperPlace, PaperReply, down, with_machine, adds_on, tick_on, sized}
 use Rattle.theory_box.proofs.PaperMachines.{Follows, Goes, stops, moves, goes, litres-are}
-use Rattle.theory_box.proofs.PaperAlike.{Present, standing, bayOf, SameTotals, present, Same, same-down, same-answered, totals_after}
+use Rattle.theory_box.proofs.PaperAlike.{Present, standing, bay_of, SameTotals, present, Same, same-down, same-answered, totals_after}
 
 -- the same totals and the same litres pass the limit alike
 same_pass : (t x t' x' : ℕ → ℕ) → ((f : ℕ) → f < farm_count → t f ≡ t' f) → ((f : ℕ) → x f ≡ x' f)
@@ -64,7 +64,7 @@ both_lengths trace answer = go (eqb (length trace) recordLength)
     go true = refl
     go false = refl
 
-module _ {S T R : Type 0} (m : Follows S T R) (k : ℕ) (s : List ℕ) (z : PaperPlace S T) (h : Present m s) (bay : z.bay ≡ some (bayOf m h))
+module _ {S T R : Type 0} (m : Follows S T R) (k : ℕ) (s : List ℕ) (z : PaperPlace S T) (h : Present m s) (bay : z.bay ≡ some (bay_of m h))
     (t : SameTotals s z.totals) (e : ℕ) (answer trace : List ℕ) where
   abbrev long : length s ≡ stretch_length
   long = h.holds.sized
@@ -80,7 +80,7 @@ module _ {S T R : Type 0} (m : Follows S T R) (k : ℕ) (s : List ℕ) (z : Pape
   buffer = paper_buffer trace answer
 
   abbrev b : paper.PaperBay S T
-  b = bayOf m h
+  b = bay_of m h
 
   -- the tick on the sequence that was admitted
   abbrev own : Outcome
@@ -101,23 +101,23 @@ module _ {S T R : Type 0} (m : Follows S T R) (k : ℕ) (s : List ℕ) (z : Pape
   abbrev Going : Outcome → Type 0
   Going = Goes m h.terms.sequence h.terms.read_back h.accepted h.fine h.state h.machine h.at h.recorded e buffer
 
-  litres : (f : ℕ) → delivering s e f ≡ addsOn m.kind (bayOf m h) e f
+  litres : (f : ℕ) → delivering s e f ≡ adds_on m.kind (bay_of m h) e f
   litres f =
       ap₂ (λ (q : List ℕ) (r : ℕ). deliveries q r (state_in s) e f) (sequence-held h.terms s (standing m h)) h.holds.set
       ∙ ap (λ (st : List ℕ). deliveries h.terms.sequence h.terms.read_back st e f) h.bytes
       ∙ litres-are m h.terms.sequence h.terms.read_back h.accepted h.fine h.state h.machine h.at h.recorded e f
 
-  pass-is : passes (ledger_in s) (delivering s e) ≡ would_pass farm_count z.totals (addsOn m.kind (bayOf m h) e)
-  pass-is = same_pass _ (delivering s e) z.totals (addsOn m.kind b e) t litres farm_count (omega arith)
+  pass-is : passes (ledger_in s) (delivering s e) ≡ would_pass farm_count z.totals (adds_on m.kind (bay_of m h) e)
+  pass-is = same_pass _ (delivering s e) z.totals (adds_on m.kind b e) t litres farm_count (omega arith)
 
   -- ---- on paper
   abbrev told : PaperReply S T R
-  told = sized m.kind (eqb (length trace) recordLength && eqb (length answer) answer_length) lent z (tick_on m.kind z (bayOf m h) e lent sees after)
+  told = sized m.kind (eqb (length trace) recordLength && eqb (length answer) answer_length) lent z (tick_on m.kind z (bay_of m h) e lent sees after)
 
-  told-by : (x : Bool) → eqb (length buffer) answer_length ≡ x → told ≡ cond x (tick_on m.kind z (bayOf m h) e lent sees after) (down 1 lent z)
+  told-by : (x : Bool) → eqb (length buffer) answer_length ≡ x → told ≡ cond x (tick_on m.kind z (bay_of m h) e lent sees after) (down 1 lent z)
   told-by x i = ap (λ (y : Bool). cond y (tick_on m.kind z b e lent sees after) (down 1 lent z)) (both_lengths trace answer ∙ i)
 
-  told-seen : length buffer ≡ answer_length → (x : Seen) → sees ≡ x → told ≡ tick_on m.kind z (bayOf m h) e lent x after
+  told-seen : length buffer ≡ answer_length → (x : Seen) → sees ≡ x → told ≡ tick_on m.kind z (bay_of m h) e lent x after
   told-seen l x i = told-by true (eq-eqb (length buffer) answer_length l) ∙ ap (λ (y : Seen). tick_on m.kind z b e lent y after) i
 
   told-short : length buffer ≢ answer_length → told ≡ down 1 lent z
@@ -126,7 +126,7 @@ module _ {S T R : Type 0} (m : Follows S T R) (k : ℕ) (s : List ℕ) (z : Pape
   abbrev entering : R → PaperReply S T R
   entering r = (
     paper.ticked r,
-    record { bay = some (with_machine (bayOf m h) after (following h.last)); totals = λ f. z.totals f + addsOn m.kind (bayOf m h) e f },
+    record { bay = some (with_machine (bay_of m h) after (following h.last)); totals = λ f. z.totals f + adds_on m.kind (bay_of m h) e f },
   )
 
   told-instant : length buffer ≡ answer_length → (x : Bool) → passes (ledger_in s) (delivering s e) ≡ x
@@ -192,7 +192,7 @@ module _ {S T R : Type 0} (m : Follows S T R) (k : ℕ) (s : List ℕ) (z : Pape
         ∙ ap₂ (λ (a b : List ℕ). m.kind.reads b (record_of (following h.last) e b a)) same-state same_left
         ∙ v (following h.last) (omega (arith, up)) in
         same-answered m c out
-        (record { bay = some (with_machine b after (following h.last)); totals = λ f. z.totals f + addsOn m.kind b e f })
+        (record { bay = some (with_machine b after (following h.last)); totals = λ f. z.totals f + adds_on m.kind b e f })
         (left ∷ record_of (following (last_number_in s)) e left state ∷ [])
         (paper.ticked r)
         (ap paper.ticked read)
@@ -226,7 +226,7 @@ module _ {S T R : Type 0} (m : Follows S T R) (k : ℕ) (s : List ℕ) (z : Pape
 
   pub tick_same : Same m (tick e answer trace) (bay_tick_of s e answer trace)
       (sized m.kind (eqb (length trace) recordLength && eqb (length answer) answer_length) (answer ∷ trace ∷ []) z
-      (tick_on m.kind z (bayOf m h) e (answer ∷ trace ∷ []) (m.kind.react (program h.terms.read_back h.accepted.statement) h.machine e).0
+      (tick_on m.kind z (bay_of m h) e (answer ∷ trace ∷ []) (m.kind.react (program h.terms.read_back h.accepted.statement) h.machine e).0
       (m.kind.react (program h.terms.read_back h.accepted.statement) h.machine e).1))
   tick_same =
       elim (ℕ_discrete (length buffer) answer_length) [

@@ -50,7 +50,7 @@ use Rattle.theory_box.specs.WrongPaper.{to, instant, reading, alone, emits_zero,
 use Rattle.theory_box.specs.WrongLedgers.{rewinds}
 use Rattle.spec_box.specs.PaperBox.{InstantTold, told, Reported, ticked, replies, present_on}
 use Rattle.spec_box.specs.Reports.{reports, paper_reports, Admitting, OnPaper, ByLabelSets}
-use Rattle.spec_box.specs.Certified.{deliveriesOver, ReadingsCertified, ReadingsCertifiedByLabels, Certificate, CertificateByLabels}
+use Rattle.spec_box.specs.Certified.{deliveries_over, ReadingsCertified, ReadingsCertifiedByLabels, Certificate, CertificateByLabels}
 use Rattle.theory_box.proofs.PaperCertified.{one_number}
 
 -- ---- what is reported of call i: the first buffer that an instant or a reader leaves, and the set that an instant emits by rewriting
@@ -201,7 +201,7 @@ not-rewinds_on_paper = (
 )
 
 pub not-rewinds_certified : (¬ ReadingsCertified rewinds) × (¬ ReadingsCertifiedByLabels rewinds)
-unfolding reports paper_reports present_on find without save_named call_of empty_box present part_of vacated filled would_pass total_in added_below delivered_by of_bits whole in_unsigned to_unsigned bay_tick_of following bay_release_of bay_admit_of bay_save_of bay_restore_of bay_ledger_of save_of lookup last_such put zeros totals_bytes ordered add to_bits of_int le_bytes le_number tick_by checked read front command_of distinct well_formed before every_label labels_of subset disjoint valid active active_labels members_from declared_by commands loop_nesting signal_nesting ceiling encode_state decode_state encode_answer expand react_by errors_by reactions_by Sets.none only member join insert remove box_after deliveriesOver sum_of calls_to
+unfolding reports paper_reports present_on find without save_named call_of empty_box present part_of vacated filled would_pass total_in added_below delivered_by of_bits whole in_unsigned to_unsigned bay_tick_of following bay_release_of bay_admit_of bay_save_of bay_restore_of bay_ledger_of save_of lookup last_such put zeros totals_bytes ordered add to_bits of_int le_bytes le_number tick_by checked read front command_of distinct well_formed before every_label labels_of subset disjoint valid active active_labels members_from declared_by commands loop_nesting signal_nesting ceiling encode_state decode_state encode_answer expand react_by errors_by reactions_by Sets.none only member join insert remove box_after deliveries_over sum_of calls_to
 not-rewinds_certified =
     let bytes : List ℕ = first (lent_after (rewinds (box_after rewinds empty_box back_behind) 0 reading)) in
     let x : Float = field_in 2 bytes in (

@@ -37,8 +37,8 @@ module _ (sequence : List ℕ) (read_back : ℕ) (buffer : List ℕ) where
 
   module _ (u : Unrolling) (goes : ByRows (number u) (UnrollRow sequence read_back buffer)) (leaves : number u ≢ 0 → u ≡ refused (number u) buffer)
       (writes : (n : ℕ) (out : List ℕ) → u ≡ unrolling 0 n out → Written sequence read_back buffer n out) where
-    is-unrollOf : u ≡ unroll_of sequence read_back buffer
-    is-unrollOf =
+    is-unroll_of : u ≡ unroll_of sequence read_back buffer
+    is-unroll_of =
         elim (ℕ_discrete (number u) 0) [
           | yes z ↦ both u (unroll_of sequence read_back buffer) refl refl z (sym same ∙ z)
           | no z ↦ leaves z ∙ ap (λ (n : ℕ). refused n buffer) same ∙ sym (rows.refusal_writes_nothing sequence read_back buffer (λ y. z (same ∙ y)))
@@ -62,5 +62,5 @@ module _ (sequence : List ℕ) (read_back : ℕ) (buffer : List ℕ) where
 pub unroll_is : (unroll : Unroll) → DecidesUnroll unroll
     → (sequence : List ℕ) (read_back : ℕ) (buffer : List ℕ) → unroll sequence read_back buffer ≡ unroll_of sequence read_back buffer
 unroll_is unroll d sequence read_back buffer =
-    is-unrollOf sequence read_back buffer (unroll sequence read_back buffer) (d.by_rows sequence read_back buffer)
+    is-unroll_of sequence read_back buffer (unroll sequence read_back buffer) (d.by_rows sequence read_back buffer)
     (d.refusal_writes_nothing sequence read_back buffer) (d.result_written sequence read_back buffer)

@@ -186,8 +186,8 @@ module _ (p q : Statement) (f : Forms false p q) where
     λ u k l a x. u k l (ap (member l) (aside_same f k) ∙ a) (exclusive-kept k l ∙ x),
   )
 
-  pub wellFormed-kept : Distinct p → WellFormed q ↔ WellFormed p
-  wellFormed-kept d = (
+  pub well_formed-kept : Distinct p → WellFormed q ↔ WellFormed p
+  well_formed-kept d = (
     λ w. (wellFormed-is p d).0 ((unmixed_is p).1 (unmixed-kept.1 ((unmixed_is q).0 ((wellFormed-is q (distinct-kept.1 d)).1 w)))),
     λ w. (wellFormed-is q (distinct-kept.1 d)).0 ((unmixed_is q).1 (unmixed-kept.0 ((unmixed_is p).0 ((wellFormed-is p d).1 w)))),
   )
@@ -215,15 +215,15 @@ module _ (p q : Statement) (f : Forms false p q) where
   plain-kept d n = (
     distinct-kept.1 d,
     targeted-kept (λ l x. absurd (n l x)),
-    (wellFormed-kept d).1 (no_setpause_formed p n),
+    (well_formed-kept d).1 (no_setpause_formed p n),
   )
 
   -- the same of the tests of LabelTests, by which a sequence is checked and a state decoded
   pub targeted-test : targeted p ≡ true → targeted q ≡ true
   targeted-test h = (targeted_is q).1 (targeted-kept ((targeted_is p).0 h))
 
-  pub wellFormed-test : well_formed q ≡ well_formed p
-  wellFormed-test =
+  pub well_formed-test : well_formed q ≡ well_formed p
+  well_formed-test =
       same_test (well_formed q) (well_formed p)
       (λ x. (unmixed_is p).1 (unmixed-kept.1 ((unmixed_is q).0 x)))
       (λ x. (unmixed_is q).1 (unmixed-kept.0 ((unmixed_is p).0 x)))

@@ -21,7 +21,7 @@ use Rattle.theory_sequence.proofs.Extents.{few_signals}
 use Rattle.theory_sequence.proofs.Rows.{Decides, decided}
 use Rattle.spec_unroll.specs.Unrolled.{unrolled, placed, result_of}
 use Rattle.theory_unroll.proofs.Forms.{Forms, unrolled_forms, declared_forms}
-use Rattle.theory_unroll.proofs.Labels.{nesting_same, distinct_same, targeted-test, wellFormed-test}
+use Rattle.theory_unroll.proofs.Labels.{nesting_same, distinct_same, targeted-test, well_formed-test}
 
 -- ---- places change no byte, no depth and no range
 pub bytes_placed : (p : Statement) (a : ℕ) → bytes_of (placed a p) ≡ bytes_of p
@@ -161,4 +161,4 @@ out_checked bs read_back p e l d =
     (omega (arith, out-nesting p read_back, few_signals bs read_back p e))
     (distinct_same f ∙ (distinct_is p).1 w.2)
     (targeted-test p (result_of p) f ((targeted_is p).1 w.3))
-    (wellFormed-test p (result_of p) f ∙ (wellFormed-is p w.2).1 w.4)
+    (well_formed-test p (result_of p) f ∙ (wellFormed-is p w.2).1 w.4)

@@ -177,21 +177,21 @@ module _ (sequence : List ℕ) (read_back : ℕ) (a : Accepted sequence read_bac
   abbrev run : List ℕ → State → List Call → List Outcome
   run bs s calls = map uncounted (outcomes tick_of bs read_back (encode_state s) calls)
 
-  abbrev litresIn : List ℕ → State → List Call → List ℕ
-  litresIn bs s calls = delivered bs read_back farm (encode_state s) calls
+  abbrev litres_in : List ℕ → State → List Call → List ℕ
+  litres_in bs s calls = delivered bs read_back farm (encode_state s) calls
 
   abbrev SameRun : State → List Call → Type 0
-  SameRun s before = (run out s before ≡ run sequence s before) × (litresIn out s before ≡ litresIn sequence s before)
+  SameRun s before = (run out s before ≡ run sequence s before) × (litres_in out s before ≡ litres_in sequence s before)
 
-  abbrev beforeFrom : State → List Call → List Call
-  beforeFrom s calls = before_wrong tick_of sequence read_back (encode_state s) calls
+  abbrev before_from : State → List Call → List Call
+  before_from s calls = before_wrong tick_of sequence read_back (encode_state s) calls
 
-  pub all_same : (calls : List Call) (s : State) → Recorded p s → SameRun s (beforeFrom s calls)
+  pub all_same : (calls : List Call) (s : State) → Recorded p s → SameRun s (before_from s calls)
   unfolding outcomes delivered before_wrong
   all_same [] s r = (refl, refl)
   all_same (c ∷ calls) s r = go (tested (tick_wrong (tick sequence s c))) (all_same calls)
     where
-      go : Tested (tick_wrong (tick sequence s c)) → ((s : State) → Recorded p s → SameRun s (beforeFrom s calls))
+      go : Tested (tick_wrong (tick sequence s c)) → ((s : State) → Recorded p s → SameRun s (before_from s calls))
           → SameRun s (cond (tick_wrong (tick sequence s c)) []
           (c ∷ before_wrong tick_of sequence read_back (state_afterwards (tick sequence s c)) calls))
       go (Tested.yes h) later = rw h (refl, refl)
