@@ -93,7 +93,7 @@ fn tick(
 }
 
 // A machine: a call for each input that the line names from `from` on. Answers the vector, or a
-// malformed one where one of them is no input.
+// malformed one where one of them is no input. An Err is a failed write, and leaves what was printed.
 pub fn run(
     rt: &impl Print,
     line: &[u8],
