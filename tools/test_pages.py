@@ -69,9 +69,9 @@ def repository():
 
 
 def pages(texts, old=True):
-    """The pages; without the notes of landings and of the port, which tell of an older tree, and the certificate, which is made."""
+    """The pages; without the notes of landings, of the port and of the design pass, which tell of an older tree, and the certificate, which is made."""
     for path, text in texts.items():
-        if path.endswith(".md") and (old or not path.startswith(("docs/landings/", "docs/CERTIFICATE", "docs/PORT"))):
+        if path.endswith(".md") and (old or not path.startswith(("docs/landings/", "docs/CERTIFICATE", "docs/PORT", "docs/DESIGN-PASS"))):
             yield path, text
 
 

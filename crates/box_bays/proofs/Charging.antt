@@ -8,23 +8,17 @@ use mathlib.Core.List.{List, [], ◌∷◌, ◌++◌}
 use lib.ListN.{length, get_or, take, drop}
 use lib.Dec.{eqb}
 use borrow.Author.Tests.{eq-eqb, ne_eqb, eqb-true, eqb-false}
-use Rattle.spec_language.specs.Statement.{Statement}
-use Rattle.spec_language.specs.Reaction.{inheritanceFirst}
-use Rattle.spec_language.specs.Machines.{State}
-use Rattle.spec_sequence.specs.Program.{program}
-use Rattle.spec_sequence.specs.Check.{Checked, sound, bad, checked}
-use Rattle.theory_sequence.proofs.Rows.{Decides, decided, row-range}
-use Rattle.spec_tick.specs.StateRecord.{state_length, Decoded, holds, malformed, decode_state}
-use Rattle.records.proofs.StateLaws as records
+use Rattle.spec_tick.specs.StateRecord.{state_length}
 use Rattle.spec_tick.specs.AnswerRecord.{answer_length}
 use Rattle.reaction.specs.declared.Reaction.{Reaction}
 use Rattle.instants.specs.Written.{writtenFrom}
 use Rattle.instants.proofs.Lengths.{writes}
-use Rattle.spec_tick.specs.Tick as Tick
 use Rattle.spec_tick.specs.Tick.{Outcome, outcome}
 use Rattle.spec_tick.specs.Demands as demands
 use Rattle.spec_tick.specs.Demands.{state_afterwards}
-use Rattle.instants.specs.declared.Reply.TheVariants.{Refused, Reacted}
+use Rattle.std.specs.Prelude.{Ok, Err}
+use Rattle.limits.specs.declared.rows.Refusal.{Refusal}
+use Rattle.limits.specs.Rows.{row_number}
 use Rattle.instants.specs.Replies.{Replies}
 use Rattle.spec_bay.specs.Ledgers.{ledger_length, reading_length, passes, added, reading_of, cleared}
 use Rattle.instants.specs.Delivering.{Delivers}
@@ -36,6 +30,7 @@ use Rattle.spec_bay.specs.Stretch.{state_at, count_at, bay_length, stretch_lengt
 use Rattle.spec_bay.specs.BayCalls.{delivering, bay_ledger_of, bay_new_year_of}
 use Rattle.box_bays.specs.Layers.{state_kept, charged, bay_step_of, bay_charged_of}
 use Rattle.theory_bay.proofs.Fields.{ledger_sized}
+use Rattle.limits.proofs.Refusals.{row_not_0}
 use Rattle.box_bays.proofs.Ticking.{short-step, refused-step, kept-written}
 
 -- ---- an instant
@@ -99,25 +94,6 @@ charged_exactly s z e farms litres d answer (called zero after lent) =
         (adds-exactly (sequence_in s) (state_in s) e (read_back_in s) farms litres (ledger_in s) d (ledger_sized s z) h)
 charged_exactly s z e farms litres d answer (called (suc n) after lent) = refl
 
--- the litres told, on the fields that were read
-pub delivers_on : {a a' b b' : List ℕ} {k k' : ℕ} (e farms : ℕ) (litres : List ℕ) → a ≡ a' → b ≡ b' → k ≡ k'
-    → Delivers a b e k farms litres → Delivers a' b' e k' farms litres
-delivers_on e farms litres p q o h = rw (p, q, o) at h
-
--- ---- a refusal has a number
-refused_not_0 : (sequence state : List ℕ) (e read_back n : ℕ) → Tick.reply_of sequence state e read_back ≡ Tick.refused n → n ≢ 0
-refused_not_0 sequence state e read_back n h z = go (checked sequence read_back) (decided sequence read_back) h
-  where
-    by : (p : Statement) (d : Decoded) → Tick.byState inheritanceFirst p d e ≡ Tick.refused n → ⊥
-    by p malformed k = let m : 11 ≡ n = cc in omega arith
-    by p (holds State.fresh) k = let m : ◌≡◌ {A = ℕ} 0 1 = cc in omega arith
-    by p (holds (State.waits L)) k = let m : ◌≡◌ {A = ℕ} 0 1 = cc in omega arith
-    by p (holds State.over) k = let m : 12 ≡ n = cc in omega arith
-
-    go : (c : Checked) → Decides sequence read_back c → Tick.by_check inheritanceFirst read_back c state e ≡ Tick.refused n → ⊥
-    go (bad m) d k = let i : m ≡ n = cc in omega (arith, row-range sequence read_back m d.0)
-    go (sound p) d k = by (program read_back p) (decode_state p state) k
-
 -- ---- the returns of the step with its litres
 module _ (s : List ℕ) (e : ℕ) (answer : List ℕ) where
   abbrev to : Called → Called
@@ -131,26 +107,27 @@ module _ (s : List ℕ) (e : ℕ) (answer : List ℕ) where
   charged-short n = ap to (short-step s e answer n) ∙ as-charged
 
   -- a step that is not turned down was lent an answer of its length
-  pub lent-answer : {n : ℕ} {s' : List ℕ} {lent : List (List ℕ)} → called n s' lent ≡ bay_charged_of s e answer → n ≡ 0 → length answer ≡ answer_length
-  lent-answer {n} w z = go (eqb (length answer) answer_length) refl
+  pub lent-answer : {s' : List ℕ} {lent : List (List ℕ)} → called 0 s' lent ≡ bay_charged_of s e answer → length answer ≡ answer_length
+  lent-answer w = go (eqb (length answer) answer_length) refl
     where
       go : (b : Bool) → eqb (length answer) answer_length ≡ b → length answer ≡ answer_length
       go true p = eqb-true (length answer) answer_length p
       go false p =
-          let x : 1 ≡ n = ap number (charged-short (eqb-false (length answer) answer_length p) ∙ sym w) in
+          let x : ◌≡◌ {A = ℕ} 1 0 = ap number (charged-short (eqb-false (length answer) answer_length p) ∙ sym w) in
           absurd (omega arith)
 
   module _ (z : length s ≡ stretch_length) (j : length answer ≡ answer_length) where
-    pub charged-refusal : (n : ℕ) → Replies (sequence_in s) (state_in s) e (read_back_in s) (Refused n)
-        → called n s (answer ∷ []) ≡ bay_charged_of s e answer
-    charged-refusal n h =
-        go n (refused_not_0 (sequence_in s) (state_in s) e (read_back_in s) n h.is) ∙ ap to (refused-step s e answer z j n h) ∙ as-charged
+    pub charged-refusal : (row : Refusal) → Replies (sequence_in s) (state_in s) e (read_back_in s) (Err row)
+        → called (row_number row) s (answer ∷ []) ≡ bay_charged_of s e answer
+    charged-refusal row h =
+        go (row_number row) (row_not_0 row)
+        ∙ ap to (refused-step s e answer z j row h) ∙ as-charged
       where
         go : (n : ℕ) → n ≢ 0 → called n s (answer ∷ []) ≡ to (called n s (answer ∷ []))
         go zero d = absurd (d refl)
         go (suc n) d = refl
 
-    pub charged-settled : (r : Reaction) → Replies (sequence_in s) (state_in s) e (read_back_in s) (Reacted r) → (farms : ℕ) (litres : List ℕ)
+    pub charged-settled : (r : Reaction) → Replies (sequence_in s) (state_in s) e (read_back_in s) (Ok r) → (farms : ℕ) (litres : List ℕ)
         → Delivers (sequence_in s) (state_in s) e (read_back_in s) farms litres
         → {o : Called} → o ≡ charged s (λ f. get_or litres f 0) answer (state_kept s (writtenFrom r)) → o ≡ bay_charged_of s e answer
     charged-settled r h farms litres d w =

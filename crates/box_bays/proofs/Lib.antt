@@ -1,7 +1,6 @@
 pub mod Admitting
 pub mod Capped
 pub mod Charging
-pub mod Moves
 pub mod Positioning
 pub mod Previewing
 pub mod Recording

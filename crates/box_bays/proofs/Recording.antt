@@ -2,7 +2,7 @@
 use Prim.Native.Nat.{ℕ, zero, suc, ◌+◌, ◌≤◌}
 use native.Mathlib.Omega.{arith}
 use mathlib.Core.Path.{◌≡◌, refl, sym, ap, ap₂, ◌∙◌}
-use mathlib.Core.Logic.{◌≢◌}
+use mathlib.Core.Logic.{◌≢◌, ◌⊎◌, inl, inr}
 use mathlib.Core.Bool.{Bool, true, false}
 use mathlib.Core.List.{List, [], ◌∷◌}
 use lib.ListN.{length}
@@ -28,6 +28,9 @@ use Rattle.box_ledgers.proofs.Theorems.{added-sized}
 use Rattle.spec_bay.specs.Called.{called}
 use Rattle.spec_bay.specs.Stretch.{state_at, count_at, bay_length, stretch_length, sequence_in, read_back_in, state_in, last_number_in, service_only_in, ledger_in, with_ledger}
 use Rattle.spec_bay.specs.BayCalls.{delivering, by_outcome, showing, bay_tick_of, bay_service_of, bay_panel_of}
+use Rattle.limits.specs.declared.rows.Refusal.{Refusal}
+use Rattle.limits.specs.Rows.{row_number}
+use Rattle.limits.proofs.Refusals.{row_not_0}
 use Rattle.box_bays.specs.Layers.{state_kept, charged, counted, recorded, bay_step_of, bay_charged_of}
 use Rattle.theory_bay.proofs.Fields.{ledger_sized, state_sized}
 use Rattle.theory_bay.proofs.Ticking.{tick_sized}
@@ -109,17 +112,15 @@ module _ (s : List ℕ) (e : ℕ) (answer trace : List ℕ) where
       unfolding bay_tick_of bay_charged_of bay_step_of
       as-recorded = rw (eq-eqb (length trace) recordLength j) (by-layers inner refl)
 
-      module _ (n : ℕ) (s' answer' : List ℕ) (w : called n s' (answer' ∷ []) ≡ bay_charged_of s e answer) where
-        pub recorded-tick : n ≡ 0 → {s'' trace' : List ℕ}
+      module _ (s' answer' : List ℕ) where
+        pub recorded-tick : called 0 s' (answer' ∷ []) ≡ bay_charged_of s e answer → {s'' trace' : List ℕ}
             → called 0 s'' (answer' ∷ trace' ∷ []) ≡ recorded e trace (called 0 s' (answer' ∷ []))
-            → called n s'' (answer' ∷ trace' ∷ []) ≡ bay_tick_of s e answer trace
-        recorded-tick h {s''} {trace'} c =
-            ap (λ (k : ℕ). called k s'' (answer' ∷ trace' ∷ [])) h ∙ c
-            ∙ ap (λ (k : ℕ). recorded e trace (called k s' (answer' ∷ []))) (sym h)
-            ∙ ap (recorded e trace) w ∙ as-recorded
+            → called 0 s'' (answer' ∷ trace' ∷ []) ≡ bay_tick_of s e answer trace
+        recorded-tick w c = c ∙ ap (recorded e trace) w ∙ as-recorded
 
-        pub refused-tick : n ≢ 0 → called n s' (answer' ∷ trace ∷ []) ≡ bay_tick_of s e answer trace
-        refused-tick h = go n h ∙ ap (recorded e trace) w ∙ as-recorded
+        pub refused-tick : (row : Refusal) → called (row_number row) s' (answer' ∷ []) ≡ bay_charged_of s e answer
+            → called (row_number row) s' (answer' ∷ trace ∷ []) ≡ bay_tick_of s e answer trace
+        refused-tick row w = go (row_number row) (row_not_0 row) ∙ ap (recorded e trace) w ∙ as-recorded
           where
             go : (n : ℕ) → n ≢ 0 → called n s' (answer' ∷ trace ∷ []) ≡ recorded e trace (called n s' (answer' ∷ []))
             go zero h = absurd (h refl)
@@ -127,37 +128,26 @@ module _ (s : List ℕ) (e : ℕ) (answer trace : List ℕ) where
 
 -- ---- the readers
 module _ (s shown : List ℕ) (viewLength : ℕ) (trace view : List ℕ) where
-  other-trace : length trace ≢ recordLength → called 1 s (view ∷ []) ≡ showing s shown viewLength trace view
-  other-trace n = rw (ne_eqb (length trace) recordLength n)
+  other-length : length trace ≢ recordLength ⊎ length trace ≡ recordLength × length view ≢ viewLength → called 1 s (view ∷ []) ≡ showing s shown viewLength trace view
+  other-length (inl n) = rw (ne_eqb (length trace) recordLength n)
+  other-length (inr (j, n)) = rw (eq-eqb (length trace) recordLength j, ne_eqb (length view) viewLength n)
 
-  module _ (j : length trace ≡ recordLength) where
-    other-view : length view ≢ viewLength → called 1 s (view ∷ []) ≡ showing s shown viewLength trace view
-    other-view n = rw (eq-eqb (length trace) recordLength j, ne_eqb (length view) viewLength n)
-
-    shows : length view ≡ viewLength → length shown ≡ viewLength → {view' : List ℕ} → view' ≡ replaced view shown
-        → called 0 s (view' ∷ []) ≡ showing s shown viewLength trace view
-    shows l m {view'} h =
-        rw (eq-eqb (length trace) recordLength j, eq-eqb (length view) viewLength l)
-        (ap (λ (r : List ℕ). called 0 s (r ∷ [])) (h ∙ replaced-by viewLength view shown m l))
+  shows : length trace ≡ recordLength → length view ≡ viewLength → length shown ≡ viewLength → {view' : List ℕ} → view' ≡ replaced view shown
+      → called 0 s (view' ∷ []) ≡ showing s shown viewLength trace view
+  shows j l m {view'} h =
+      rw (eq-eqb (length trace) recordLength j, eq-eqb (length view) viewLength l)
+      (ap (λ (r : List ℕ). called 0 s (r ∷ [])) (h ∙ replaced-by viewLength view shown m l))
 
 module _ (s trace view : List ℕ) where
-  pub service-of-other : length trace ≢ recordLength → called 1 s (view ∷ []) ≡ bay_service_of s trace view
+  pub not-served : length trace ≢ recordLength ⊎ length trace ≡ recordLength × length view ≢ recordLength → called 1 s (view ∷ []) ≡ bay_service_of s trace view
   unfolding bay_service_of
-  service-of-other = other-trace s trace recordLength trace view
+  not-served = other-length s trace recordLength trace view
 
-  pub panel-of-other : length trace ≢ recordLength → called 1 s (view ∷ []) ≡ bay_panel_of s trace view
+  pub not-paneled : length trace ≢ recordLength ⊎ length trace ≡ recordLength × length view ≢ panel_length → called 1 s (view ∷ []) ≡ bay_panel_of s trace view
   unfolding bay_panel_of
-  panel-of-other = other-trace s (panel_of (service_only_in s) trace) panel_length trace view
+  not-paneled = other-length s (panel_of (service_only_in s) trace) panel_length trace view
 
   module _ (j : length trace ≡ recordLength) where
-    pub service-in-other : length view ≢ recordLength → called 1 s (view ∷ []) ≡ bay_service_of s trace view
-    unfolding bay_service_of
-    service-in-other = other-view s trace recordLength trace view j
-
-    pub panel-in-other : length view ≢ panel_length → called 1 s (view ∷ []) ≡ bay_panel_of s trace view
-    unfolding bay_panel_of
-    panel-in-other = other-view s (panel_of (service_only_in s) trace) panel_length trace view j
-
     pub served : length view ≡ recordLength → {view' : List ℕ} → view' ≡ replaced view trace → called 0 s (view' ∷ []) ≡ bay_service_of s trace view
     unfolding bay_service_of
     served l h = shows s trace recordLength trace view j l j h

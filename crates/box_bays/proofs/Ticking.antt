@@ -11,8 +11,9 @@ use Rattle.spec_tick.specs.Tick.{Outcome, outcome, tick_by, tick_of, reply_of}
 use Rattle.theory_tick.proofs.Sequence.{tick_short}
 use Rattle.reaction.specs.declared.Reaction.{Reaction}
 use Rattle.instants.specs.Written.{writtenFrom}
-use Rattle.instants.specs.declared.Reply.{Reply}
-use Rattle.instants.specs.declared.Reply.TheVariants.{Refused, Reacted}
+use Rattle.std.specs.Prelude.{Result, Ok, Err}
+use Rattle.limits.specs.declared.rows.Refusal.{Refusal}
+use Rattle.limits.specs.Rows.{row_number}
 use Rattle.instants.specs.Replies.{replied_from, Replies}
 use Rattle.instants.proofs.Replying.{replied_from_lem}
 use Rattle.numbers.proofs.Putting.{put-slot}
@@ -20,10 +21,6 @@ use Rattle.spec_bay.specs.Called.{called}
 use Rattle.spec_bay.specs.Stretch.{state_at, stretch_length, sequence_in, read_back_in, state_in}
 use Rattle.box_bays.specs.Layers.{state_kept, bay_step_of}
 use Rattle.theory_bay.proofs.Fields.{state_sized}
-
--- the core's answer, on the fields that were read
-pub on_fields : {a a' b b' : List ℕ} {e k k' : ℕ} {r : Reply} → a ≡ a' → b ≡ b' → k ≡ k' → Replies a b e k r → Replies a' b' e k' r
-on_fields p q o h = rw (p, q, o) at h
 
 module _ (s : List ℕ) (e : ℕ) (answer : List ℕ) where
   -- a refusal leaves the slot
@@ -41,15 +38,16 @@ module _ (s : List ℕ) (e : ℕ) (answer : List ℕ) where
   short-step n = unmoved 1 ∙ kept (outcome 1 (state_in s) answer) (sym (tick_short (sequence_in s) (state_in s) e (read_back_in s) answer n))
 
   module _ (z : length s ≡ stretch_length) (j : length answer ≡ answer_length) where
-    replied-step : (r : Reply) → Replies (sequence_in s) (state_in s) e (read_back_in s) r → replied_from r (state_in s) answer ≡ inner
+    replied-step : (r : Result Reaction Refusal) → Replies (sequence_in s) (state_in s) e (read_back_in s) r → replied_from r (state_in s) answer ≡ inner
     unfolding tick_by
     replied-step r h =
         rw (eq-eqb (length (state_in s)) state_length (state_sized s z), eq-eqb (length answer) answer_length j)
         (replied_from_lem r (reply_of (sequence_in s) (state_in s) e (read_back_in s)) h.is (state_in s) answer)
 
-    pub refused-step : (n : ℕ) → Replies (sequence_in s) (state_in s) e (read_back_in s) (Refused n) → called n s (answer ∷ []) ≡ bay_step_of s e answer
-    refused-step n h = unmoved n ∙ kept (outcome n (state_in s) answer) (replied-step (Refused n) h)
+    pub refused-step : (row : Refusal) → Replies (sequence_in s) (state_in s) e (read_back_in s) (Err row)
+        → called (row_number row) s (answer ∷ []) ≡ bay_step_of s e answer
+    refused-step row h = unmoved (row_number row) ∙ kept (outcome (row_number row) (state_in s) answer) (replied-step (Err row) h)
 
-    pub kept-written : (r : Reaction) → Replies (sequence_in s) (state_in s) e (read_back_in s) (Reacted r)
+    pub kept-written : (r : Reaction) → Replies (sequence_in s) (state_in s) e (read_back_in s) (Ok r)
         → state_kept s (writtenFrom r) ≡ bay_step_of s e answer
-    kept-written r h = kept (writtenFrom r) (replied-step (Reacted r) h)
+    kept-written r h = kept (writtenFrom r) (replied-step (Ok r) h)

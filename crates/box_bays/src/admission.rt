@@ -3,31 +3,26 @@ ghost use Rattle.std.specs.Prelude.{◌≡◌, ◌^◌, ◌≤◌, [], length};
 ghost use Rattle.spec_bay.specs.Called.{called};
 ghost use Rattle.spec_bay.specs.Stretch.{stretch_length, terms};
 ghost use Rattle.spec_bay.specs.BayCalls.{bay_admit_of};
+ghost use Rattle.limits.specs.Rows.{call_number};
 
-use ceilings::Plan;
-use limits::rows;
+use limits::rows::Refusal;
 
-// The reactions of an instant that the bays share.
-// Admits a sequence to the bay, or gives the number that turns it down. `present` is what the bays present have of the shared ceiling.
+// Admits a sequence to the bay. `present` is what the bays present have of the shared ceiling.
 pub fn admit(
     stretch: &mut [u8],
     present: u64,
     sequence: &[u8],
     read_back: u32,
     service_only: u32,
-) -> u8
+) -> Result<(), Refusal>
     requires { (length stretch.old ≡ stretch_length) × (present ≤ 2 ^ 40) }
-    ensures { called result stretch.new []
+    ensures { called (call_number result) stretch.new []
         ≡ bay_admit_of present stretch.old (terms sequence.now read_back service_only) }
 {
-    match ceilings::planned(sequence, read_back) {
-        Plan::Refused(number) => number,
-        Plan::Takes(ceiling) => {
-            if limits::SHARED_CEILING < present + ceiling as u64 {
-                return rows::CEILING;
-            }
-            crate::filling::fill(stretch, sequence, read_back, service_only, ceiling);
-            0
-        }
+    let ceiling = ceilings::planned(sequence, read_back)?;
+    if limits::SHARED_CEILING < present + ceiling as u64 {
+        return Err(Refusal::Ceiling);
     }
+    crate::filling::fill(stretch, sequence, read_back, service_only, ceiling);
+    Ok(())
 }

@@ -6,7 +6,8 @@ use box_positions::TABLE_LENGTH;
 use limits::{MAX_BYTES, NUMBER_BYTES, REACTIONS_BYTES, SIGNAL_BYTES};
 use records::STATE_LENGTH;
 
-// Where the fields begin. Fixed by the admission:
+// Where the fields begin: bytes at fixed places and no struct, since a box is bytes that C lends, laid out
+// as docs/FORMAT.md has it. Fixed by the admission:
 pub const LENGTH_BYTES: usize = 2;
 
 pub const SEQUENCE_AT: usize = LENGTH_BYTES;

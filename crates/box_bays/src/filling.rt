@@ -16,12 +16,11 @@ fn vacate(stretch: &mut [u8])
     numbers::put_le(stretch, 0, BAY_LENGTH, 0);
 }
 
-pub fn release(stretch: &mut [u8]) -> u8
+pub fn release(stretch: &mut [u8])
     requires { length stretch.old ≡ stretch_length }
-    ensures { called result stretch.new [] ≡ bay_release_of stretch.old }
+    ensures { called 0 stretch.new [] ≡ bay_release_of stretch.old }
 {
     vacate(stretch);
-    0
 }
 
 // Fills the slot of a bay: a fresh machine of this sequence, no positions, number 0.

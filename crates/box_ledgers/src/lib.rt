@@ -17,7 +17,7 @@ pub const LENGTH: usize = 128;
 
 pub const READING_LENGTH: usize = 132;
 
-// Four bytes, lowest first. Written out, so that it is one store.
+// Four bytes, lowest first. Written out, and not a call of `numbers::put_le`, so that it is one store.
 fn put_four(b: &mut [u8], at: usize, x: u32)
     requires { at + 4 ≤ length b.old }
     ensures { b.new ≡ sets b.old at (le_bytes 4 x) }
@@ -46,11 +46,7 @@ fn passes_at(ledger: &[u8], farm: usize, more: u32) -> bool
     requires { (length ledger.now ≡ ledger_length) × (farm < farm_count) }
     ensures { result ≡ ltb litres_limit (total_in farm ledger.now + more) }
 {
-    if more == 0 {
-        return false;
-    }
-    let held = total(ledger, farm) as u32;
-    (limits::LITRES_LIMIT as u64) < held as u64 + more as u64
+    more != 0 && (limits::LITRES_LIMIT as u64) < total(ledger, farm) as u32 as u64 + more as u64
 }
 
 // Whether some farm's total would pass the limit with the litres of that farm. Only the farms of the set have any.
@@ -104,10 +100,8 @@ pub fn clear(ledger: &mut [u8])
     requires { length ledger.old ≡ ledger_length }
     ensures { ledger.new ≡ cleared }
 {
-    let mut farm: usize = 0;
-    while farm < FARMS {
+    for farm in 0..FARMS {
         numbers::put_le(ledger, farm * 4, 4, 0);
-        farm += 1;
     }
 }
 
@@ -129,11 +123,8 @@ pub fn read(ledger: &[u8], reading: &mut [u8])
     ensures near { Near 496 (total_read reading.new) (exact_total farm_count ledger.now) }
 {
     let mut t = show(ledger, 0, reading);
-    let mut farm: usize = 1;
-    while farm < FARMS {
-        let x = show(ledger, farm, reading);
-        t = t + x;
-        farm += 1;
+    for farm in 1..FARMS {
+        t += show(ledger, farm, reading);
     }
     put_four(reading, LENGTH, f32::to_bits(t));
 }

@@ -27,46 +27,33 @@ place_step zero key t h = absurd (omega arith)
 place_step (suc n) key t h = let e : suc n - 1 ≡ n = omega arith in rw e
 
 module _ (n key : ℕ) (t : List ℕ) (i : ℕ) (inv : place n key t ≡ place i key t) where
-  pub hit : {r : ℕ} → 0 < i → r ≡ key_in (i - 1) t → r ≡ key → i - 1 ≡ place n key t
-  hit h e k = sym (inv ∙ place_step i key t h ∙ rw (eq-eqb (key_in (i - 1) t) key (sym e ∙ k)))
+  pub hit : {r : ℕ} → 0 < i → r ≡ key_in (i - 1) t → r ≡ key → place n key t ≡ i - 1
+  hit h e k = inv ∙ place_step i key t h ∙ rw (eq-eqb (key_in (i - 1) t) key (sym e ∙ k))
 
   pub missed : {r : ℕ} → 0 < i → r ≡ key_in (i - 1) t → r ≢ key → place n key t ≡ place (i - 1) key t
   missed h e k = inv ∙ place_step i key t h ∙ rw (ne_eqb (key_in (i - 1) t) key (λ x. k (e ∙ x)))
 
-  pub nowhere : i ≤ 0 → max_positions ≡ place n key t
+  pub nowhere : i ≤ 0 → place n key t ≡ max_positions
   unfolding place
-  nowhere h = let e : i ≡ 0 = omega arith in sym (inv ∙ ap (λ (m : ℕ). place m key t) e)
+  nowhere h = let e : i ≡ 0 = omega arith in inv ∙ ap (λ (m : ℕ). place m key t) e
 
--- ---- the place of a name, or a free one
-module _ (t : List ℕ) {k : ℕ} where
-  pub known-place : k < max_positions → k ≡ cond (ltb k max_positions) k (place max_positions 0 t)
-  known-place l = rw (lt-ltb k max_positions l)
-
-  pub free-place : max_positions ≤ k → {r : ℕ} → r ≡ place max_positions 0 t → r ≡ cond (ltb k max_positions) k (place max_positions 0 t)
-  free-place l e = rw (le-ltb k max_positions l) e
-
-module _ (name : ℕ) (t : List ℕ) {k i : ℕ} (w : k ≡ place_of name t) (e : i ≡ cond (ltb k max_positions) k (place max_positions 0 t)) (labels : ℕ) where
-  for-name : i ≡ place_for name t
-  for-name = e ∙ ap (λ (j : ℕ). cond (ltb j max_positions) j (place max_positions 0 t)) w
-
-  pub saved : i < max_positions → {t' : List ℕ} → t' ≡ written i name labels t → kept 0 t' ≡ save_of name labels t
-  saved l {t'} h =
-      (let e : kept 0 t' ≡ cond (ltb (place_for name t) max_positions) (kept 0 (written (place_for name t) name labels t)) (kept 16 t) =
-      rw (lt-ltb (place_for name t) max_positions (rw for-name at l)) (ap (kept 0) (h ∙ ap (λ (j : ℕ). written j name labels t) for-name)) in e)
+-- ---- a name is saved at its place, or at a free one
+module _ (name : ℕ) (t : List ℕ) (labels : ℕ) where
+  pub saved : {i : ℕ} → (i < max_positions) × (place_for name t ≡ i) → {t' : List ℕ} → t' ≡ written i name labels t → kept 0 t' ≡ save_of name labels t
+  saved {i} (l, e) {t'} h =
+      (let w : kept 0 t' ≡ cond (ltb (place_for name t) max_positions) (kept 0 (written (place_for name t) name labels t)) (kept 16 t) =
+      rw (e, lt-ltb i max_positions l) (ap (kept 0) h) in w)
       ∙ sym (save_is name labels t)
 
-  pub not_saved : max_positions ≤ i → kept 16 t ≡ save_of name labels t
-  not_saved l =
-      (let e : kept 16 t ≡ cond (ltb (place_for name t) max_positions) (kept 0 (written (place_for name t) name labels t)) (kept 16 t) =
-      rw (le-ltb (place_for name t) max_positions (rw for-name at l)) in e)
+  pub not_saved : place_for name t ≡ max_positions → kept 16 t ≡ save_of name labels t
+  not_saved e =
+      (let w : kept 16 t ≡ cond (ltb (place_for name t) max_positions) (kept 0 (written (place_for name t) name labels t)) (kept 16 t) =
+      rw e in w)
       ∙ sym (save_is name labels t)
 
 module _ (i : ℕ) (t : List ℕ) where
   pub forgotten : i < max_positions → {t' : List ℕ} → t' ≡ cleared i t → kept 0 t' ≡ cond (ltb i max_positions) (kept 0 (cleared i t)) (kept 15 t)
   forgotten l w = rw (lt-ltb i max_positions l) (ap (kept 0) w)
-
-  pub not-forgotten : max_positions ≤ i → kept 15 t ≡ cond (ltb i max_positions) (kept 0 (cleared i t)) (kept 15 t)
-  not-forgotten l = rw (le-ltb i max_positions l)
 
 -- ---- an entry is written, or cleared
 module _ (i : ℕ) (t : List ℕ) (z : length t ≡ table_length) (l : i < max_positions) where

@@ -1,5 +1,6 @@
 -- The table of positions as the code goes through it, with 16 for no entry; and tables that saving and forgetting leave.
 use Rattle.std.specs.Prelude.{ℕ, zero, suc, ◌+◌, ◌-◌, ◌^◌, ◌<◌, ◌≡◌, cond, ◌⊎◌, List, [], ◌∷◌, length, eqb, ltb}
+use Rattle.std.specs.Prelude as std
 use Rattle.std.proofs.Math.Option.{Option, some, none}
 use Rattle.spec_base.specs.Limits.{max_positions, name_bytes}
 use Rattle.spec_bay.specs.Names.{Position, find, names_of, Once}
@@ -19,6 +20,15 @@ place (suc n) key t = cond (eqb (key_in n t) key) n (place n key t)
 
 abbrev pub place_of : (name : ℕ) → List ℕ → ℕ
 place_of name t = place max_positions (key_of name) t
+
+-- the entry that the code answers, with 16 for none; and that it is entry n, or that n is 16
+abbrev pub place_in : std.Option ℕ → ℕ
+place_in std.None = max_positions
+place_in (std.Some i) = i
+
+abbrev pub Places : std.Option ℕ → (n : ℕ) → Type 0
+Places std.None n = n ≡ max_positions
+Places (std.Some i) n = (i < max_positions) × (n ≡ i)
 
 -- where a known name is, else a free entry
 abbrev pub place_for : (name : ℕ) → List ℕ → ℕ

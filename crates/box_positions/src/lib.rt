@@ -2,14 +2,16 @@
 // is the positions by name.
 #![tactic(auto)]
 
-ghost use Rattle.std.specs.Prelude.{◌≡◌, cond, ◌<◌, length, ltb};
+ghost use Rattle.std.specs.Prelude.{◌≡◌, ℕ, cond, ◌<◌, length, ltb};
 ghost use Rattle.spec_base.specs.Limits.{max_positions};
 ghost use Rattle.labels.specs.Labels.{label_set};
 ghost use Rattle.spec_bay.specs.Table.{table_length, saved_labels, written, cleared, kept, save_of};
-ghost use Rattle.box_positions.specs.Places.{place, place_of};
+ghost use Rattle.box_positions.specs.Places.{place, place_of, place_in, Places};
+ghost use Rattle.limits.specs.Rows.{call_number};
 
 use labels::Labels;
-use limits::{MAX_POSITIONS, NAME_BYTES, rows};
+use limits::rows::Refusal;
+use limits::{MAX_POSITIONS, NAME_BYTES};
 use records::STATE_LENGTH;
 
 const KEY_BYTES: usize = NAME_BYTES + 1;
@@ -21,35 +23,30 @@ pub const TABLE_LENGTH: usize = MAX_POSITIONS * ENTRY_LENGTH;
 // The mark of a used entry, behind the name.
 const USED: u64 = 4294967296;
 
-// The number of an entry with this key, or 16 if there is none.
-fn place(table: &[u8], key: u64) -> usize
-    ensures { result ≡ place max_positions key table.now }
+// The last entry with this key.
+fn place(table: &[u8], key: u64) -> Option<usize>
+    ensures { Places result (place max_positions key table.now) }
 {
-    let mut i = MAX_POSITIONS;
-    while 0 < i {
-        i -= 1;
+    for i in (0..MAX_POSITIONS).rev() {
         if numbers::get_le(table, i * ENTRY_LENGTH, KEY_BYTES) == key {
-            return i;
+            return Some(i);
         }
     }
-    MAX_POSITIONS
+    None
 }
 
-// The number of the entry of a name, or 16 if there is none.
-pub fn place_of(table: &[u8], name: u32) -> usize
-    ensures { result ≡ place_of name table.now }
+// The entry of a name.
+pub fn place_of(table: &[u8], name: u32) -> Option<usize>
+    ensures { Places result (place_of name table.now) }
 {
     place(table, name as u64 + USED)
 }
 
-// The number of the entry of a name, or else of a free entry, or 16 if there is neither.
-fn place_for(table: &[u8], known: usize) -> usize
-    ensures { result ≡ cond (ltb known max_positions) known (place max_positions 0 table.now) }
+// The entry of a name, or else a free one.
+fn place_for(table: &[u8], known: Option<usize>) -> Option<usize>
+    ensures { (n : ℕ) → Places known n → Places result (cond (ltb n max_positions) n (place max_positions 0 table.now)) }
 {
-    if known < MAX_POSITIONS {
-        return known;
-    }
-    place(table, 0)
+    known.or_else(|| place(table, 0))
 }
 
 pub fn saved_labels(table: &[u8], i: usize) -> Labels
@@ -70,27 +67,31 @@ fn write(table: &mut [u8], i: usize, name: u32, labels: Labels)
     records::write_state(&mut table[from..end], 1, labels);
 }
 
-pub fn save(table: &mut [u8], known: usize, name: u32, labels: Labels) -> u8
-    requires { (length table.old ≡ table_length) × (known ≡ place_of name table.old) }
-    ensures { kept result table.new ≡ save_of name (label_set labels) table.old }
+pub fn save(
+    table: &mut [u8],
+    known: Option<usize>,
+    name: u32,
+    labels: Labels,
+) -> Result<(), Refusal>
+    requires { (length table.old ≡ table_length) × Places known (place_of name table.old) }
+    ensures { kept (call_number result) table.new ≡ save_of name (label_set labels) table.old }
 {
-    let i = place_for(table, known);
-    if i < MAX_POSITIONS {
-        write(table, i, name, labels);
-        return 0;
-    }
-    rows::POSITIONS
+    let i = place_for(table, known).ok_or(Refusal::Positions)?;
+    write(table, i, name, labels);
+    Ok(())
 }
 
-// The name of an entry is forgotten; 15 if it has none.
-pub fn forget(table: &mut [u8], known: usize) -> u8
+// The name of an entry is forgotten; without an entry the call is turned down.
+pub fn forget(table: &mut [u8], known: Option<usize>) -> Result<(), Refusal>
     requires { length table.old ≡ table_length }
-    ensures { kept result table.new
-        ≡ cond (ltb known max_positions) (kept 0 (cleared known table.old)) (kept 15 table.old) }
+    ensures { kept (call_number result) table.new
+        ≡ cond (ltb (place_in known) max_positions) (kept 0 (cleared (place_in known) table.old)) (kept 15 table.old) }
 {
-    if known < MAX_POSITIONS {
-        numbers::put_le(table, known * ENTRY_LENGTH, ENTRY_LENGTH, 0);
-        return 0;
+    match known {
+        Some(i) if i < MAX_POSITIONS => {
+            numbers::put_le(table, i * ENTRY_LENGTH, ENTRY_LENGTH, 0);
+            Ok(())
+        }
+        _ => Err(Refusal::Position),
     }
-    rows::POSITION
 }

@@ -18,7 +18,9 @@ use Rattle.reaction.specs.Reactions.{reaction_of}
 use Rattle.instants.specs.Written.{writtenFrom}
 use Rattle.spec_tick.specs.Tick.{refused, reacts, reply_of}
 use Rattle.spec_tick.specs.Demands.{answer_afterwards}
-use Rattle.instants.specs.declared.Reply.TheVariants.{Reacted}
+use Rattle.std.specs.Prelude.{Ok}
+use Rattle.limits.specs.declared.rows.Refusal.{Refusal}
+use Rattle.limits.specs.Rows.{row_number}
 use Rattle.instants.specs.Replies.{StartsAt, Replies}
 use Rattle.instants.proofs.Replying.{written_from, started-reply}
 use Rattle.spec_bay.specs.declared.Findings.{Findings}
@@ -40,7 +42,7 @@ module _ (answers : ℕ → List ℕ) (input unknown : ℕ) (buffer : List ℕ) 
 -- ---- from an origin, whatever the input, the machine reacts
 module _ (sequence state : List ℕ) (read_back : ℕ) {second notes : List ℕ} (a : Passed sequence read_back second notes) where
   abbrev pub Reacts : Start → Type 0
-  Reacts origin = (e : ℕ) → Replies sequence state e read_back (Reacted (reaction_of (start_traced 0 (program read_back (term_at origin a.p)) e)))
+  Reacts origin = (e : ℕ) → Replies sequence state e read_back (Ok (reaction_of (start_traced 0 (program read_back (term_at origin a.p)) e)))
 
   pub from_start : (origin : Start) → StartsAt a.p state origin → Reacts origin
   from_start origin d e = started-reply sequence state e read_back a.p a.is a.ranged 0 _ origin d refl
@@ -66,8 +68,8 @@ module _ (sequence state : List ℕ) (input unknown read_back : ℕ) (buffer : L
   other-buffer z = sym (numbers.other-buffer sequence state read_back input unknown buffer z)
 
   module _ (sized : length buffer ≡ preview_length) where
-    pub turned_down : (n : ℕ) → ((e : ℕ) → reply_of sequence state e read_back ≡ refused n) → Represents (previewed n buffer)
-    turned_down n h = sym (refused-preview sequence state read_back input unknown buffer sized n (h (difference input unknown)))
+    pub turned_down : (r : Refusal) → ((e : ℕ) → reply_of sequence state e read_back ≡ refused (row_number r)) → Represents (previewed (row_number r) buffer)
+    turned_down r h = sym (refused-preview sequence state read_back input unknown buffer sized (row_number r) (h (difference input unknown)))
 
     module _ {second notes : List ℕ} (a : Passed sequence read_back second notes) where
       pub shown-preview : (origin : Start) → Reacts sequence state read_back a origin → (o : Previewed)

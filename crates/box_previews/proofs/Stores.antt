@@ -1,6 +1,8 @@
 -- A run of stores that gives the bytes of a preview.
 use Prim.Native.Nat.{ℕ}
 use mathlib.Core.Path.{◌≡◌, refl, sym, ap, ◌∙◌}
+use mathlib.Core.Bool.{Bool, true, false}
+use Rattle.std.specs.Int.{from_bool}
 use mathlib.Core.List.{List, [], ◌∷◌, ◌++◌}
 use lib.ListN.{length}
 use lib.Seq.{sets}
@@ -10,6 +12,10 @@ use Rattle.spec_base.specs.Bytes.{le_bytes}
 use Rattle.numbers.proofs.Writing.{sets-whole, sets_append}
 use Rattle.spec_bay.specs.declared.Findings.{Findings}
 use Rattle.spec_bay.specs.Preview.{never_at, wrong_at, preview_length, bit, preview_bytes}
+
+pub byte_bit : (b : Bool) → from_bool b ≡ bit b
+byte_bit true = refl
+byte_bit false = refl
 
 pub preview_sized : (x : Findings) → length (preview_bytes x) ≡ preview_length
 unfolding le_bytes

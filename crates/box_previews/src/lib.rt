@@ -2,17 +2,18 @@
 // once, then an instant is found for each filling that can differ, and the findings are put together.
 #![tactic(auto)]
 
-ghost use Rattle.std.specs.Prelude.{◌≡◌, ◌||◌, length};
-ghost use Rattle.spec_bay.specs.Preview.{alone, shared_by, both, bit, preview_length, preview_bytes, found_in, findings, previewed, shown_by, preview_of};
+ghost use Rattle.std.specs.Prelude.{◌≡◌, length};
+ghost use Rattle.spec_bay.specs.Preview.{alone, shared_by, both, preview_length, preview_bytes, found_in, findings, previewed, shown_by, preview_of};
 ghost use Rattle.spec_base.specs.Sets.{Disjoint};
 ghost use Rattle.spec_tick.specs.Demands.{answer_afterwards};
 ghost use Rattle.program.specs.Program.{ReactedWithoutLitres};
 ghost use Rattle.instants.specs.Written.{Writable, writtenFrom};
 ghost use Rattle.box_previews.specs.Standing.{answers_at, Stands, OfEach};
+ghost use Rattle.limits.specs.Rows.{call_number};
 
-use instants::Standing;
 use layout::SecondParts;
-use limits::{SIGNAL_BYTES, rows};
+use limits::SIGNAL_BYTES;
+use limits::rows::Refusal;
 use notes::Notes;
 use program::Start;
 use reaction::{Completion, Reaction};
@@ -25,7 +26,7 @@ pub const WRONG_AT: usize = NEVER_AT + SIGNAL_BYTES;
 
 pub const PREVIEW_LENGTH: usize = WRONG_AT + 2;
 
-// The code of fillings that do not share one.
+// The code of fillings that do not share one: a byte of the format.
 const OPEN: u8 = 254;
 
 // The findings of one filling, from what its instant reports.
@@ -40,12 +41,7 @@ fn alone(emitted: u32, code: u8) -> Findings
     }
 }
 
-fn either(a: bool, b: bool) -> bool
-    ensures { result ≡ (a || b) }
-{
-    if a { true } else { b }
-}
-
+// An `if` of one line, which no method of the library says shorter.
 fn shared(k: u8, l: u8) -> u8
     ensures { result ≡ shared_by k l }
 {
@@ -58,15 +54,9 @@ fn both(x: Findings, y: Findings) -> Findings
     Findings {
         every: signals::common(x.every, y.every),
         some: signals::union(x.some, y.some),
-        wrong: either(x.wrong, y.wrong),
+        wrong: x.wrong || y.wrong,
         code: shared(x.code, y.code),
     }
-}
-
-fn bit(b: bool) -> u8
-    ensures { result ≡ bit b }
-{
-    if b { 1 } else { 0 }
 }
 
 fn write(buffer: &mut [u8], x: Findings)
@@ -74,10 +64,9 @@ fn write(buffer: &mut [u8], x: Findings)
     ensures { buffer.new ≡ preview_bytes x }
 {
     let never = signals::complement(x.some);
-    let wrong = bit(x.wrong);
     numbers::put_le(buffer, 0, SIGNAL_BYTES, x.every as u64);
     numbers::put_le(buffer, NEVER_AT, SIGNAL_BYTES, never as u64);
-    buffer[WRONG_AT] = wrong;
+    buffer[WRONG_AT] = u8::from(x.wrong);
     buffer[WRONG_AT + 1] = x.code;
 }
 
@@ -144,7 +133,7 @@ fn gather(
     fill(sequence, second, origin, known, unknown, read_back, r)
 }
 
-// The preview from an origin: 0, or 17 for a seventh unknown.
+// The preview from an origin, if no more than six inputs are unknown.
 fn show(
     sequence: &[u8],
     second: &SecondParts,
@@ -153,22 +142,22 @@ fn show(
     unknown: u32,
     read_back: u32,
     buffer: &mut [u8],
-) -> u8
+) -> Result<(), Refusal>
     requires { Stands second.now sequence.now origin read_back × (length buffer.old ≡ preview_length) }
     ensures { OfEach second.now sequence.now
-        (λ p. previewed result buffer.new ≡ shown_by (answers_at origin p read_back) input unknown buffer.old) }
+        (λ p. previewed (call_number result) buffer.new ≡ shown_by (answers_at origin p read_back) input unknown buffer.old) }
 {
     if limits::MAX_UNKNOWN < signals::size(unknown) {
-        return rows::UNKNOWN;
+        return Err(Refusal::Unknown);
     }
     write(
         buffer,
         gather(sequence, second, origin, input, unknown, read_back),
     );
-    0
+    Ok(())
 }
 
-// The preview of a machine: 0, and the buffer is written, or the number of the row that turns the call down.
+// The preview of a machine: the buffer is written, if the call is not turned down.
 pub fn preview(
     sequence: &[u8],
     state: &[u8],
@@ -176,17 +165,15 @@ pub fn preview(
     unknown: u32,
     read_back: u32,
     buffer: &mut [u8],
-) -> u8
-    ensures { previewed result buffer.new
+) -> Result<(), Refusal>
+    ensures { previewed (call_number result) buffer.new
         ≡ preview_of sequence.now state.now input unknown read_back buffer.old }
 {
     if buffer.len() != PREVIEW_LENGTH {
-        return rows::LENGTH;
+        return Err(Refusal::Length);
     }
     let mut second: SecondParts = [0; limits::MAX_BYTES];
     let mut notes: Notes = [0; notes::LENGTH];
-    match instants::begin(sequence, state, read_back, &mut second, &mut notes) {
-        Standing::Refused(row) => row,
-        Standing::From(start) => show(sequence, &second, start, input, unknown, read_back, buffer),
-    }
+    let start = instants::begin(sequence, state, read_back, &mut second, &mut notes)?;
+    show(sequence, &second, start, input, unknown, read_back, buffer)
 }

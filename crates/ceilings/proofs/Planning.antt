@@ -15,12 +15,16 @@ use Rattle.theory_sequence.proofs.Extents.{few_signals}
 use Rattle.layout.specs.Notes.{most_in}
 use Rattle.checks.specs.Verdict.{Judged, Passed}
 use Rattle.checks.proofs.Passing.{as-ready}
+use Rattle.limits.proofs.Refusals.{row_not_0}
+use Rattle.std.specs.Prelude.{Result, Ok, Err}
+use Rattle.std.specs.Result.{result_unwrap_or}
+use Rattle.limits.specs.declared.rows.Refusal.{Refusal}
+use Rattle.limits.specs.Rows.{row_number, call_number}
 use Rattle.ceilings.specs.declared.Extent.{Extent}
 use Rattle.ceilings.specs.Extents.{Has, Countable, HasWith}
 use Rattle.spec_sequence.specs.Ceilings.{ceiling_of}
 use Rattle.ceilings.specs.Ceilings.{Plannable, product}
-use Rattle.ceilings.specs.declared.Plan.TheVariants.{Refused, Takes}
-use Rattle.ceilings.specs.Plans.{plan_of}
+use Rattle.ceilings.specs.Plans.{PlanOf}
 use Rattle.ceilings.proofs.Sizes.{sized}
 
 -- ---- the product
@@ -73,24 +77,21 @@ module _ (bs : List ℕ) (read_back : ℕ) where
           z ∙ rw (h.count, h.loops, h.signals) (sym (ceiling-is read_back (length (read_back_signals read_back)) a.p refl)) ∙ ap (ceiling_of read_back) (sym a.is)
 
   -- ---- what an admission is told
-  pub plan-refused : {t notes : List ℕ} {r : ℕ} → Judged bs read_back t notes r → (r ≡ 0 → ⊥) → Refused r ≡ plan_of read_back (checked bs read_back)
+  pub plan-refused : {t notes : List ℕ} {r : Result (Unit {0}) Refusal} (refusal : Refusal) → Judged bs read_back t notes (call_number r)
+      → r ≡ Err refusal → PlanOf read_back (checked bs read_back) (Err refusal)
   unfolding check_of
-  plan-refused {r = r} j z = go (checked bs read_back) j.number
+  plan-refused refusal j is = go (checked bs read_back) (sym (ap call_number is) ∙ j.number)
     where
-      go : (c : Checked) → r ≡ number_of c → Refused r ≡ plan_of read_back c
-      go (bad k) e = ap Refused e
-      go (sound p) e = absurd (z e)
+      go : (c : Checked) → row_number refusal ≡ number_of c → PlanOf read_back c (Err refusal)
+      go (bad k) e = (refusal, refl, e)
+      go (sound p) e = absurd (row_not_0 refusal e)
 
   pub plan-takes : {t notes : List ℕ} → Passed bs read_back t notes → {r : ℕ} → r ≡ ceiling_of read_back (checked bs read_back)
-      → Takes r ≡ plan_of read_back (checked bs read_back)
-  plan-takes a e = ap Takes (e ∙ ap (ceiling_of read_back) a.is) ∙ ap (plan_of read_back) (sym a.is)
+      → PlanOf read_back (checked bs read_back) (Ok r)
+  plan-takes a {r} e = rw a.is (ap (λ (n : ℕ). Ok n) (e ∙ ap (ceiling_of read_back) a.is))
 
 -- the ceiling by what an admission is told
-module _ (read_back : ℕ) {n : ℕ} where
-  pub no-ceiling : (c : Checked) → Refused n ≡ plan_of read_back c → 0 ≡ ceiling_of read_back c
-  no-ceiling (bad k) e = refl
-  no-ceiling (sound p) e = absurd (let z : ◌≡◌ {A = ℕ} 0 1 = cc in omega arith)
-
-  pub its-ceiling : (c : Checked) → Takes n ≡ plan_of read_back c → n ≡ ceiling_of read_back c
-  its-ceiling (bad k) e = absurd (let z : ◌≡◌ {A = ℕ} 0 1 = cc in omega arith)
-  its-ceiling (sound p) e = cc
+module _ (read_back : ℕ) where
+  pub its-ceiling : (c : Checked) (r : Result ℕ Refusal) → PlanOf read_back c r → result_unwrap_or r 0 ≡ ceiling_of read_back c
+  its-ceiling (bad k) r (refusal, e, f) = rw e refl
+  its-ceiling (sound p) r e = rw e refl

@@ -2,7 +2,7 @@
 // statement has, how many loops and signals stand around one, and the product of these numbers.
 #![tactic(auto)]
 
-ghost use Rattle.std.specs.Prelude.{◌≡◌, max, ◌+◌, ◌*◌, ◌^◌, ℕ, length, List};
+ghost use Rattle.std.specs.Prelude.{◌≡◌, ◌+◌, ◌*◌, ◌^◌, ℕ, length, List};
 ghost use Rattle.spec_base.specs.Limits.{max_depth, signal_count};
 ghost use Rattle.ceilings.specs.Extents.{HeadAt, Countable, Tallied, HasWith};
 ghost use Rattle.spec_base.specs.Sets.{members_from};
@@ -10,13 +10,14 @@ ghost use Rattle.ceilings.specs.Ceilings.{Plannable, product};
 ghost use Rattle.spec_sequence.specs.Check.{checked};
 ghost use Rattle.spec_sequence.specs.Ceilings.{ceiling_of};
 ghost use Rattle.checks.specs.Verdict.{Passed};
-ghost use Rattle.ceilings.specs.Plans.{plan_of};
+ghost use Rattle.ceilings.specs.Plans.{PlanOf};
 
 use layout::SecondParts;
+use limits::rows::Refusal;
 use notes::Notes;
 
 // Of a statement: its commands, and the greatest numbers of loops and of signals around one.
-#[derive(Clone, Copy)]
+#[derive(Clone, Copy, Debug, PartialEq, Eq)]
 pub struct Extent {
     pub commands: u32,
     pub loops: u32,
@@ -24,13 +25,14 @@ pub struct Extent {
 }
 
 // A command: its own bytes and its parts, counted.
-#[derive(Clone, Copy)]
+#[derive(Clone, Copy, Debug, PartialEq, Eq)]
 pub struct Head {
     pub bytes: usize,
     pub parts: u8,
 }
 
-// The command b. One tree of comparisons for both counts: each command takes one way through it.
+// The command b. One tree of comparisons for both counts: each command takes one way through it, and a ceiling is faster by it than by
+// `operand_count` and `part_count`.
 fn opens(b: u8) -> Head
     ensures { HeadAt b result }
 {
@@ -61,14 +63,8 @@ fn opens(b: u8) -> Head
     Head { bytes: 2, parts: 1 }
 }
 
-fn greater(x: u32, y: u32) -> u32
-    ensures { result ≡ max x y }
-{
-    if x < y { y } else { x }
-}
-
 // Of a statement: its bytes, its commands, and the greatest number of loops around one.
-#[derive(Clone, Copy)]
+#[derive(Clone, Copy, Debug, PartialEq, Eq)]
 pub struct Tally {
     pub bytes: usize,
     pub commands: u32,
@@ -88,24 +84,24 @@ fn of_statement(s: &[u8], depth: u8) -> Tally
     while 0 < left {
         let b = s[at];
         let h = opens(b);
-        commands = commands + 1;
-        at = at + h.bytes;
+        commands += 1;
+        at += h.bytes;
         if h.parts == 0 {
-            left = left - 1;
+            left -= 1;
         } else if h.parts == 2 {
-            left = left + 1;
+            left += 1;
         } else if b == limits::LOOP {
             let body = of_statement(&s[at..], depth - 1);
-            at = at + body.bytes;
-            commands = commands + body.commands;
-            loops = greater(loops, 1 + body.loops);
-            left = left - 1;
+            at += body.bytes;
+            commands += body.commands;
+            loops = loops.max(1 + body.loops);
+            left -= 1;
         }
     }
     Tally {
         bytes: at,
-        commands: commands,
-        loops: loops,
+        commands,
+        loops,
     }
 }
 
@@ -118,7 +114,7 @@ fn of_sequence(s: &[u8], signals: u32) -> Extent
     Extent {
         commands: n.commands,
         loops: n.loops,
-        signals: signals,
+        signals,
     }
 }
 
@@ -140,31 +136,19 @@ fn of_accepted(sequence: &[u8], read_back: u32, notes: &Notes) -> u32
     under(n, read_back)
 }
 
-// The row that turns a sequence down, or the ceiling of one that passes the check.
-#[derive(Clone, Copy)]
-pub enum Plan {
-    Refused(u8),
-    Takes(u32),
-}
-
-pub fn planned(sequence: &[u8], read_back: u32) -> Plan
-    ensures { result ≡ plan_of read_back (checked sequence.now read_back) }
+// The ceiling of a sequence that passes the check.
+pub fn planned(sequence: &[u8], read_back: u32) -> Result<u32, Refusal>
+    ensures { PlanOf read_back (checked sequence.now read_back) result }
 {
     let mut second: SecondParts = [0; limits::MAX_BYTES];
     let mut notes: Notes = [0; notes::LENGTH];
-    let number = checks::check(sequence, read_back, &mut second, &mut notes);
-    if number != 0 {
-        return Plan::Refused(number);
-    }
-    Plan::Takes(of_accepted(sequence, read_back, &notes))
+    checks::check(sequence, read_back, &mut second, &mut notes)?;
+    Ok(of_accepted(sequence, read_back, &notes))
 }
 
 // The ceiling of a sequence with a read-back set; of one that is turned down, 0.
 pub fn ceiling(sequence: &[u8], read_back: u32) -> u32
     ensures { result ≡ ceiling_of read_back (checked sequence.now read_back) }
 {
-    match planned(sequence, read_back) {
-        Plan::Refused(_) => 0,
-        Plan::Takes(n) => n,
-    }
+    planned(sequence, read_back).unwrap_or(0)
 }

@@ -1,3 +1,3 @@
-pub mod LabelRow
+pub mod LabelRules
 pub mod Passing
 pub mod Verdicts

@@ -8,10 +8,12 @@ use native.Mathlib.Decide.{dec_lt}
 use lib.Dec.{leb, ltb}
 use lib.ListN.{length}
 use borrow.Author.Tests.{lt-ltb, le-ltb, leb-true}
+use Rattle.std.specs.Prelude.{Result, Ok, Err}
 use Rattle.spec_language.specs.Statement.{Statement}
 use Rattle.spec_language.specs.LabelTests.{distinct, targeted, well_formed}
 use Rattle.reading.specs.declared.reader.Reading.{Reading}
-use Rattle.reading.specs.declared.reader.Reading.TheVariants.{Accepted, Refused}
+use Rattle.limits.specs.declared.rows.Refusal.{Refusal}
+use Rattle.limits.specs.Rows.{row_number}
 use Rattle.spec_base.specs.Limits.{max_bytes, max_depth, max_signals, read_back_place}
 use Rattle.theory_language.proofs.Ceiling.{nesting_declared}
 use Rattle.spec_sequence.specs.Reader.{Read, accepted, refused, read_all}
@@ -20,7 +22,7 @@ use Rattle.spec_sequence.specs.Writer.{Written}
 use Rattle.spec_sequence.specs.Program.{read_back_signals, program}
 use Rattle.layout.specs.Layout.{Lies}
 use Rattle.layout.specs.Notes.{Noted}
-use Rattle.reading.specs.Reading.{reading_of, Reads}
+use Rattle.reading.specs.Reading.{ReadingOf, Reads}
 use Rattle.spec_sequence.specs.Check.{sound, bad, label_rules, after_read, number_of, checked, check_of}
 use Rattle.theory_sequence.proofs.Sound as Sound
 use Rattle.layout.proofs.Noting as Noting
@@ -58,7 +60,7 @@ module _ (bs : List ℕ) (read_back : ℕ) (t notes : List ℕ) where
   unfolding checked
   unsized e = refuse (rw e) refl
 
-  module _ (sized : (leb 1 (length bs) && leb (length bs) max_bytes) ≡ true) {x : Reading} (h : Reads bs t notes x) where
+  module _ (sized : (leb 1 (length bs) && leb (length bs) max_bytes) ≡ true) {x : Result Reading Refusal} (h : Reads bs t notes x) where
     few : length bs ≤ max_bytes
     few = sized_few bs sized
 
@@ -66,20 +68,28 @@ module _ (bs : List ℕ) (read_back : ℕ) (t notes : List ℕ) where
     unfolding checked
     by-reading y e = rw (sized, e)
 
-    pub refused-is : {r : ℕ} → x ≡ Refused r → Judged bs read_back t notes r
-    refused-is {r} g = go (read_all bs) refl (sym g ∙ h.answer)
+    pub refused-is : {refusal : Refusal} → x ≡ Err refusal → Judged bs read_back t notes (row_number refusal)
+    refused-is {refusal} g = go (read_all bs) refl (subst (ReadingOf (read_all bs)) g h.answer)
       where
-        go : (y : Read) → read_all bs ≡ y → Refused r ≡ reading_of y → Judged bs read_back t notes r
+        go : (y : Read) → read_all bs ≡ y → ReadingOf y (Err refusal) → Judged bs read_back t notes (row_number refusal)
         go (accepted p n) q z = absurd (let n : ◌≡◌ {A = ℕ} 0 1 = cc in omega arith)
-        go (refused n) q z = refuse (by-reading (refused n) q) cc
+        go (refused n) q z = let same : refusal ≡ z.0 = cc in refuse (by-reading (refused n) q) (ap row_number same ∙ z.2)
 
-    module _ {n left : ℕ} (g : x ≡ Accepted n left) where
+    module _ {reading : Reading} (g : x ≡ Ok reading) where
+      abbrev n : ℕ
+      n = reading.bytes
+
+      abbrev left : ℕ
+      left = reading.left
+
       as_read : ReadAs bs n left
-      as_read = go (read_all bs) refl (sym g ∙ h.answer)
+      as_read = go (read_all bs) refl (subst (ReadingOf (read_all bs)) g h.answer)
         where
-          go : (y : Read) → read_all bs ≡ y → Accepted n left ≡ reading_of y → ReadAs bs n left
-          go (accepted p m) q z = let e : m ≡ n = cc in record { statement = p; reads = q ∙ ap (accepted p) e; leaves = cc }
-          go (refused m) q z = absurd (let n : ◌≡◌ {A = ℕ} 0 1 = cc in omega arith)
+          go : (y : Read) → read_all bs ≡ y → ReadingOf y (Ok reading) → ReadAs bs n left
+          go (accepted p m) q z =
+              let e : reading ≡ record { bytes = m; left = max_signals - signal_nesting p } = cc in
+              record { statement = p; reads = q ∙ ap (λ (r : Reading). accepted p r.bytes) (sym e); leaves = ap (λ (r : Reading). r.left) e }
+          go (refused m) q z = absurd (let k : ◌≡◌ {A = ℕ} 0 1 = cc in omega arith)
 
       abbrev p : Statement
       p = as_read.statement

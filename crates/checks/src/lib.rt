@@ -10,82 +10,76 @@ ghost use Rattle.spec_base.specs.Sets.{members_from};
 ghost use Rattle.layout.specs.Notes.{no_notes};
 ghost use Rattle.checks.specs.Verdict.{Judged};
 ghost use Rattle.spec_sequence.specs.Check.{check_of};
+ghost use Rattle.limits.specs.Rows.{call_number};
 
 use layout::SecondParts;
-use limits::rows;
+use limits::rows::Refusal;
 use notes::Notes;
-use reading::reader::Reading;
 
-// The first of rows 8, 9 and 10 that holds, or 0. Without setpauses neither row 9 nor row 10 can.
-fn label_row(s: &[u8], notes: &Notes) -> u8
+// The first of rows 8, 9 and 10 that holds turns the sequence down. Without setpauses neither row 9 nor row 10 can.
+fn label_rules(s: &[u8], notes: &Notes) -> Result<(), Refusal>
     requires { Standing max_depth 0 s.now }
-    ensures { ByLabels s.now notes.now result }
+    ensures { ByLabels s.now notes.now (call_number result) }
 {
     if !notes::is_distinct(notes) {
-        return rows::TWICE;
+        return Err(Refusal::Twice);
     }
     let setpauses = notes::setpauses(notes);
     if labels::is_empty(setpauses) {
-        return 0;
+        return Ok(());
     }
     let pauses = notes::pauses(notes);
     if !labels::subset(setpauses, pauses) {
-        return rows::UNPAUSED;
+        return Err(Refusal::Unpaused);
     }
-    if wellformed::triggers::is_well_formed(s, pauses) {
-        0
-    } else {
-        rows::FORM
+    if !wellformed::triggers::is_well_formed(s, pauses) {
+        return Err(Refusal::Form);
     }
+    Ok(())
 }
 
 // Whether a sequence of n bytes is within row 2: not empty, and no longer than is allowed.
 fn is_sized(n: usize) -> bool
     ensures { result ≡ (leb 1 n && leb n max_bytes) }
 {
-    if n == 0 {
-        return false;
-    }
-    n <= limits::MAX_BYTES
+    (1..=limits::MAX_BYTES).contains(&n)
 }
 
-// Row 6 or 7, or 0, of a sequence of `bytes` bytes whose statement has n; `left` more signals may stand around it.
-fn after_reading(n: usize, left: u8, bytes: usize, read_back: u32) -> u8
-    ensures { result ≡ cond (ltb left (length (members_from signal_count 0 read_back))) depth_row (cond (ltb n bytes) behind_row 0) }
+// Rows 6 and 7 of a sequence of `bytes` bytes whose statement has n; `left` more signals may stand around it.
+fn after_reading(n: usize, left: u8, bytes: usize, read_back: u32) -> Result<(), Refusal>
+    ensures { call_number result ≡ cond (ltb left (length (members_from signal_count 0 read_back))) depth_row (cond (ltb n bytes) behind_row 0) }
 {
     if left < signals::size(read_back) {
-        return rows::DEPTH;
+        return Err(Refusal::Depth);
     }
     if n < bytes {
-        return rows::BEHIND;
+        return Err(Refusal::Behind);
     }
-    0
+    Ok(())
 }
 
-// The row that turns the sequence down, or 0.
-pub fn check(s: &[u8], read_back: u32, second: &mut SecondParts, notes: &mut Notes) -> u8
+// Turns the sequence down by the first row that holds.
+pub fn check(
+    s: &[u8],
+    read_back: u32,
+    second: &mut SecondParts,
+    notes: &mut Notes,
+) -> Result<(), Refusal>
     requires second_len { length second.old ≡ max_bytes }
     requires notes_value { notes.old ≡ no_notes }
-    ensures { Judged s.now read_back second.new notes.new result }
+    ensures { Judged s.now read_back second.new notes.new (call_number result) }
 {
     if !is_sized(s.len()) {
-        return rows::BYTES;
+        return Err(Refusal::Bytes);
     }
-    match reading::reader::read_sequence(s, second, notes) {
-        Reading::Refused(row) => row,
-        Reading::Accepted(n, left) => {
-            let row = after_reading(n, left, s.len(), read_back);
-            if row == 0 {
-                return label_row(s, notes);
-            }
-            row
-        }
-    }
+    let read = reading::reader::read_sequence(s, second, notes)?;
+    after_reading(read.bytes, read.left, s.len(), read_back)?;
+    label_rules(s, notes)
 }
 
-// The number alone, for a caller that does not react.
-pub fn number(sequence: &[u8], read_back: u32) -> u8
-    ensures { result ≡ check_of sequence.now read_back }
+// The verdict alone, for a caller that does not react.
+pub fn verdict(sequence: &[u8], read_back: u32) -> Result<(), Refusal>
+    ensures { call_number result ≡ check_of sequence.now read_back }
 {
     let mut second: SecondParts = [0; limits::MAX_BYTES];
     let mut notes: Notes = [0; notes::LENGTH];

@@ -9,28 +9,20 @@ use native.Mathlib.Omega.{arith}
 use lib.Dec.{eqb}
 use borrow.Author.Tests.{eqb-true, eqb-false, ne_eqb}
 use Rattle.spec_sequence.specs.Commands.{Command, command_of, operandCount, partCount, in_range}
-use Rattle.commands.specs.declared.Count.TheVariants.{NoCommand, Of}
+use Rattle.std.specs.Prelude.{Some, None}
 use Rattle.commands.specs.Counts.{counted, operands_at, parts_at, count_of, is_leaf, operand_in_range}
 use Rattle.commands.specs.Printed.{operands_printed, parts_printed}
 
 -- ---- what a count says
-pub of_command : (f : Command → ℕ) (o : Option Command) (n : ℕ) → Of n ≡ count_of (counted f o) → (c : Command) × ((o ≡ some c) × (n ≡ f c))
+pub of_command : (f : Command → ℕ) (o : Option Command) (n : ℕ) → Some n ≡ count_of (counted f o) → (c : Command) × ((o ≡ some c) × (n ≡ f c))
 of_command f none n e = absurd (let x : ◌≡◌ {A = ℕ} 0 1 = cc in omega arith)
 of_command f (some c) n e = (c, (refl, cc))
 
-pub of_none : (f : Command → ℕ) (o : Option Command) → NoCommand ≡ count_of (counted f o) → o ≡ none
+pub of_none : (f : Command → ℕ) (o : Option Command) → None ≡ count_of (counted f o) → o ≡ none
 of_none f none e = refl
 of_none f (some c) e = absurd (let x : ◌≡◌ {A = ℕ} 0 1 = cc in omega arith)
 
 -- ---- whether a command has parts
-pub leaf_none : (o : Option ℕ) → NoCommand ≡ count_of o → false ≡ is_leaf o
-leaf_none none e = refl
-leaf_none (some m) e = absurd (let x : ◌≡◌ {A = ℕ} 0 1 = cc in omega arith)
-
-pub leaf_of : (o : Option ℕ) (n : ℕ) → Of n ≡ count_of o → eqb n 0 ≡ is_leaf o
-leaf_of none n e = absurd (let x : ◌≡◌ {A = ℕ} 0 1 = cc in omega arith)
-leaf_of (some m) n e = let q : n ≡ m = cc in ap (λ (k : ℕ). eqb k 0) q
-
 pub without_parts : {o : Option Command} (c : Command) → o ≡ some c → is_leaf (counted partCount o) ≡ true → partCount c ≡ 0
 without_parts c e h = eqb-true (partCount c) 0 (rw e at h)
 

@@ -1,10 +1,9 @@
 -- The operand bytes and the parts of a byte's command, counted, and the range of its operand; a byte without a command has none of them.
 use Rattle.std.specs.Prelude.{ℕ, Bool, false, cond, [], ◌∷◌, eqb, ltb}
+use Rattle.std.specs.Prelude as std
 use Rattle.std.proofs.Math.Option.{Option, none, some}
 use Rattle.spec_base.specs.Limits.{signal_count}
 use Rattle.spec_sequence.specs.Commands.{Command, command_of, operandCount, partCount, in_range}
-use Rattle.commands.specs.declared.Count.{Count}
-use Rattle.commands.specs.declared.Count.TheVariants.{NoCommand, Of}
 
 abbrev pub counted : (Command → ℕ) → Option Command → Option ℕ
 counted f none = none
@@ -27,6 +26,6 @@ operand_in_range none x = ltb x signal_count
 operand_in_range (some c) x = cond (eqb (operandCount c) 0) (ltb x signal_count) (in_range c (x ∷ []))
 
 -- as the code says it
-abbrev pub count_of : Option ℕ → Count
-count_of none = NoCommand
-count_of (some n) = Of n
+abbrev pub count_of : Option ℕ → std.Option ℕ
+count_of none = std.None
+count_of (some n) = std.Some n

@@ -9,94 +9,77 @@ ghost use Rattle.spec_sequence.specs.Reader.{front};
 ghost use Rattle.layout.specs.Walk.{head_of};
 ghost use Rattle.commands.specs.Shapes.{HasShape};
 
-// A count, or that the byte has no command.
-#[derive(Clone, Copy)]
-pub enum Count {
-    NoCommand,
-    Of(u8),
-}
-
-// The operand bytes of the command b.
-pub fn operand_count(b: u8) -> Count
+// The operand bytes of the command b; a byte without a command has no count.
+// Comparisons, here and in `part_count`: a match may become a lookup table, and 02, item 2 asks for no constant array.
+pub fn operand_count(b: u8) -> Option<u8>
     ensures { result ≡ count_of (operands_at b) }
 {
     if b == 0 {
-        return Count::Of(0);
+        return Some(0);
     }
     if b < 4 {
-        return Count::Of(1);
+        return Some(1);
     }
     if b < 7 {
-        return Count::Of(0);
+        return Some(0);
     }
     if b == 9 {
-        return Count::Of(0);
+        return Some(0);
     }
     if b < limits::LAST_COMMAND {
-        return Count::Of(1);
+        return Some(1);
     }
     if b == 12 {
-        return Count::Of(5);
+        return Some(5);
     }
-    Count::NoCommand
+    None
 }
 
-// The parts of the command b.
-pub fn part_count(b: u8) -> Count
+// The parts of the command b; a byte without a command has no count.
+pub fn part_count(b: u8) -> Option<u8>
     ensures { result ≡ count_of (parts_at b) }
 {
     if b < 4 {
-        return Count::Of(0);
+        return Some(0);
     }
     if b < 6 {
-        return Count::Of(2);
+        return Some(2);
     }
     if b == 7 {
-        return Count::Of(2);
+        return Some(2);
     }
     if b == 10 {
-        return Count::Of(0);
+        return Some(0);
     }
     if b == 12 {
-        return Count::Of(0);
+        return Some(0);
     }
     if limits::LAST_COMMAND < b {
-        return Count::NoCommand;
+        return None;
     }
-    Count::Of(1)
+    Some(1)
 }
 
 // Whether x, the first operand byte of the command b, is in its range; of a command without an operand, in that of signals.
 fn in_range(b: u8, x: u8) -> bool
     ensures { result ≡ operand_in_range (command_of b) x }
 {
-    if b == 3 {
-        if x == 0 {
-            return false;
-        }
-        return x <= limits::MAX_EXIT;
+    match b {
+        limits::EXIT => matches!(x, 1..=limits::MAX_EXIT),
+        limits::PAUSE | limits::SETPAUSE => x < limits::LABELS,
+        _ => x < limits::SIGNALS,
     }
-    if b == 1 {
-        return x < limits::LABELS;
-    }
-    if b == 10 {
-        return x < limits::LABELS;
-    }
-    x < limits::SIGNALS
 }
 
 // Whether b is a command without parts. A byte without a command is not.
 pub fn is_leaf(b: u8) -> bool
     ensures { result ≡ is_leaf (parts_at b) }
 {
-    match part_count(b) {
-        Count::NoCommand => false,
-        Count::Of(n) => n == 0,
-    }
+    part_count(b) == Some(0)
 }
 
 // A command by the number of its parts, with the bytes of its own.
-#[derive(Clone, Copy)]
+#[derive(Clone, Copy, Debug, PartialEq, Eq)]
 pub enum Shape {
     Leaf(usize),
     One(usize),
@@ -122,6 +105,7 @@ pub fn shape_of(b: u8) -> Shape
 }
 
 // The head of the command 0C at the front of s: its bytes, or the row that turns it down.
+// One number, here, in `leaf` and in `width`: a Result would go through memory at every command that is read.
 fn delivery(s: &[u8]) -> usize
     requires { (0 < length s.now) × (get_or s.now 0 0 ≡ 12) }
     ensures { result ≡ head_of (front s.now) }
@@ -152,7 +136,7 @@ pub fn leaf(s: &[u8], b: u8) -> usize
         return layout::MISSING_ROW;
     }
     if b == limits::DELIVER {
-        return delivery(&s[0..]);
+        return delivery(s);
     }
     if in_range(b, s[1]) {
         2
@@ -168,8 +152,8 @@ pub fn width(s: &[u8], b: u8) -> usize
     ensures { result ≡ head_of (front s.now) }
 {
     match operand_count(b) {
-        Count::NoCommand => layout::COMMAND_ROW,
-        Count::Of(n) => {
+        None => layout::COMMAND_ROW,
+        Some(n) => {
             if n == 0 {
                 return 1;
             }

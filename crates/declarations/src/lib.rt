@@ -2,12 +2,12 @@
 // declaration makes of them, or of one run that stands for both.
 #![tactic(auto)]
 
-ghost use Rattle.std.specs.Prelude.{◌≡◌, ◌+◌, ℕ};
+ghost use Rattle.std.specs.Prelude.{◌≡◌, ℕ};
 ghost use Rattle.declarations.specs.Choices.{choice_of, case_in};
 ghost use Rattle.spec_base.specs.Sets.{none, join, remove};
 ghost use Rattle.labels.specs.Labels.{labels_with};
 ghost use Rattle.reaction.specs.Completions.{greater_of};
-ghost use Rattle.reaction.specs.Reactions.{kept_of, FromOne, FromTwo};
+ghost use Rattle.reaction.specs.Reactions.{FromOne, FromTwo};
 ghost use Rattle.spec_language.specs.Statement.{Scope, local, reported};
 ghost use Rattle.spec_language.specs.Reaction.{outside};
 ghost use Rattle.theory_language.specs.Traced.{signal_once, signal_traced};
@@ -17,7 +17,7 @@ use limits::kinds;
 use reaction::Reaction;
 
 // The five signal cases of 01.
-#[derive(Clone, Copy)]
+#[derive(Clone, Copy, Debug, PartialEq, Eq)]
 pub enum Choice {
     Both,
     Neither,
@@ -30,35 +30,18 @@ pub enum Choice {
 fn choose(s: u8, minus: Reaction, plus: Reaction) -> Choice
     ensures { result ≡ choice_of (case_in s minus plus) }
 {
-    let k = minus.completion;
-    let l = plus.completion;
-    let wrong_minus = reaction::is_wrong(k);
-    let wrong_plus = reaction::is_wrong(l);
-    if wrong_minus | wrong_plus {
+    if reaction::is_wrong(minus.completion) || reaction::is_wrong(plus.completion) {
         return Choice::Inherited;
     }
-    let in_minus = signals::member(minus.emitted, s);
-    let in_plus = signals::member(plus.emitted, s);
-    if in_minus {
-        if in_plus {
-            Choice::Both
-        } else {
-            Choice::OnlyMinus
-        }
-    } else {
-        if in_plus {
-            Choice::OnlyPlus
-        } else {
-            Choice::Neither
-        }
+    match (
+        signals::member(minus.emitted, s),
+        signals::member(plus.emitted, s),
+    ) {
+        (true, true) => Choice::Both,
+        (true, false) => Choice::OnlyMinus,
+        (false, true) => Choice::OnlyPlus,
+        (false, false) => Choice::Neither,
     }
-}
-
-// The number of reactions of a declaration: both runs count.
-fn counted(minus: Reaction, plus: Reaction) -> u32
-    ensures { result ≡ kept_of (1 + minus.reactions + plus.reactions) }
-{
-    reaction::over_two(minus.reactions, plus.reactions)
 }
 
 // The signals that a declaration asks for: those of both runs, without its own signal s.
@@ -78,12 +61,10 @@ fn inherited(minus: Reaction, plus: Reaction, reactions: u32, asked: u32) -> Rea
       asked = asked;
     } }
 {
-    let k = minus.completion;
-    let l = plus.completion;
     Reaction {
         emitted: 0,
         labels: labels::empty(),
-        completion: reaction::greater_of(k, l),
+        completion: reaction::greater_of(minus.completion, plus.completion),
         reactions,
         asked,
     }
@@ -95,13 +76,11 @@ fn declaring_once(kept: u32, p: Reaction) -> Reaction
     ensures { (f : ℕ) (sc : Scope) (a s : ℕ) → kept ≡ outside sc s p.emitted
         → FromOne (signal_once f sc a s) p result }
 {
-    let k = p.completion;
-    let labels = p.labels;
     let reactions = reaction::over_two(p.reactions, p.reactions);
-    if reaction::is_wrong(k) {
-        reaction::made(0, labels::empty(), k, reactions, p.asked)
+    if reaction::is_wrong(p.completion) {
+        reaction::made(0, labels::empty(), p.completion, reactions, p.asked)
     } else {
-        reaction::made(kept, labels, k, reactions, p.asked)
+        reaction::made(kept, p.labels, p.completion, reactions, p.asked)
     }
 }
 
@@ -111,15 +90,18 @@ fn declaring(place: u16, s: u8, kept: u32, minus: Reaction, plus: Reaction) -> R
     ensures { (f : ℕ) (sc : Scope) → kept ≡ outside sc s plus.emitted
         → FromTwo (signal_traced f sc place s) minus plus result }
 {
-    let k = minus.completion;
-    let l = plus.completion;
-    let minus_labels = minus.labels;
-    let plus_labels = plus.labels;
-    let reactions = counted(minus, plus);
+    // both runs count
+    let reactions = reaction::over_two(minus.reactions, plus.reactions);
     let asked = asked(s, minus, plus);
     match choose(s, minus, plus) {
-        Choice::Both => reaction::made(kept, plus_labels, l, reactions, asked),
-        Choice::Neither => reaction::made(minus.emitted, minus_labels, k, reactions, asked),
+        Choice::Both => reaction::made(kept, plus.labels, plus.completion, reactions, asked),
+        Choice::Neither => reaction::made(
+            minus.emitted,
+            minus.labels,
+            minus.completion,
+            reactions,
+            asked,
+        ),
         Choice::OnlyMinus => reaction::failing(kinds::NOT_REACTIVE, place, reactions, asked),
         Choice::OnlyPlus => reaction::failing(kinds::NOT_DETERMINISTIC, place, reactions, asked),
         Choice::Inherited => inherited(minus, plus, reactions, asked),

@@ -1,16 +1,16 @@
--- Laws of a run's file: its parts, whether it is whole, and its inputs.
-use Prim.Native.Nat.{ℕ, zero, suc, ◌+◌, ◌-◌, ◌*◌, ◌%◌, ◌≤◌, ◌<◌}
+-- Laws of a run's file: its parts, what it is, and its inputs.
+use Prim.Native.Nat.{ℕ, zero, suc, ◌+◌, ◌*◌, ◌≤◌, ◌<◌}
 use native.Mathlib.Omega.{arith}
 use mathlib.Core.Bool.{true, false}
 use mathlib.Core.Logic.{◌≢◌}
 use mathlib.Core.Option.{none, some}
-use mathlib.Core.Path.{◌≡◌, refl, sym, ap, ◌∙◌, subst}
+use mathlib.Core.Path.{◌≡◌, refl, sym, ap, ◌∙◌}
 use mathlib.Core.List.{List, [], ◌∷◌}
 use lib.ListN.{length, take, drop, length-drop, drop_of_length-le}
 use lib.Seq.{drop-nil, drop-drop}
-use lib.Dec.{eqb}
-use borrow.Author.Tests.{le-leb, lt-leb}
 use Rattle.spec_sequence.specs.Check.{check_of}
+use Rattle.limits.specs.Rows.{row_number}
+use Rattle.limits.specs.declared.rows.Refusal.{Refusal}
 use Rattle.spec_base.specs.Bytes.{le_number}
 use Rattle.spec_programs.specs.File.{File, cut, refused, runs, by_number, file_of, sequence_length, inputs_at, sequence_in, read_back_in, words, inputs_in, first, whole}
 
@@ -22,26 +22,6 @@ sequence_part file s n e h = h ∙ ap (λ (k : ℕ). take k (drop 2 file)) e
 pub read-back_part : (file : List ℕ) (x n : ℕ) → n ≡ sequence_length file → x ≡ le_number (take 4 (drop (2 + n) file)) → x ≡ read_back_in file
 unfolding read_back_in
 read-back_part file x n e h = h ∙ ap (λ (k : ℕ). le_number (take 4 (drop (2 + k) file))) e
-
--- ---- whole
-pub too_long : (file : List ℕ) → 65536 < length file → false ≡ whole file
-too_long file h = rw (lt-leb (length file) 65536 h) refl
-
-pub too_short : (file : List ℕ) → length file ≤ 65536 → length file < 2 → false ≡ whole file
-too_short file a h = rw (le-leb (length file) 65536 a, lt-leb 2 (length file) h) refl
-
--- the file ends before its inputs begin: within the sequence, or before or within the read-back set
-pub ended_early : (file : List ℕ) (at : ℕ) → at ≡ inputs_at file → length file ≤ 65536 → 2 ≤ length file → length file < at
-    → false ≡ whole file
-ended_early file at e a b h =
-    let k : length file < inputs_at file = subst (λ (m : ℕ). length file < m) e h in
-    rw (le-leb (length file) 65536 a, le-leb 2 (length file) b, lt-leb (inputs_at file) (length file) k) refl
-
-pub bytes_over : (file : List ℕ) (at : ℕ) → at ≡ inputs_at file → length file ≤ 65536 → 2 ≤ length file → at ≤ length file
-    → eqb ((length file - at) % 4) 0 ≡ whole file
-bytes_over file at e a b h =
-    let k : inputs_at file ≤ length file = subst (λ (m : ℕ). m ≤ length file) e h in
-    rw (le-leb (length file) 65536 a, le-leb 2 (length file) b, le-leb (inputs_at file) (length file) k, e) refl
 
 -- ---- what the file is
 pub file_cut : (file : List ℕ) → whole file ≡ false → cut ≡ file_of file

@@ -4,8 +4,10 @@
 ghost use Rattle.std.specs.Prelude.{◌<◌, ◌≡◌, drop};
 ghost use Rattle.spec_programs.specs.File.{sequence_length, read_back_at, inputs_at, sequence_in, read_back_in, inputs_in, first, whole};
 ghost use Rattle.files.specs.Answers.{input_by};
+ghost use Rattle.files.specs.declared.FileError.TheVariants.{Refused};
 
 use limits::SIGNAL_BYTES;
+use limits::rows::Refusal;
 
 // The bytes of the length that begins a file.
 const LENGTH_BYTES: usize = 2;
@@ -13,10 +15,19 @@ const LENGTH_BYTES: usize = 2;
 // The most bytes of a file, its first two among them.
 const MAX_FILE: usize = 65536;
 
-#[derive(Clone, Copy)]
-pub enum Input {
-    Word(u32),
-    Nothing,
+// Why a file comes to nothing: it is not whole, or the check turns its sequence down.
+#[derive(Clone, Copy, Debug, PartialEq, Eq)]
+pub enum FileError {
+    Cut,
+    Refused(Refusal),
+}
+
+impl From<Refusal> for FileError {
+    ghost from_gives = { λ refusal e. e ≡ Refused refusal };
+
+    fn from(refusal: Refusal) -> FileError {
+        FileError::Refused(refusal)
+    }
 }
 
 // The length that a file names for its sequence.
@@ -61,30 +72,18 @@ pub fn is_whole(file: &[u8]) -> bool
     ensures { result ≡ whole file.now }
 {
     let n = file.len();
-    if MAX_FILE < n {
-        return false;
-    }
-    if n < LENGTH_BYTES {
-        return false;
-    }
     let at = inputs_begin(file);
-    if n < at {
-        return false;
-    }
-    (n - at) % SIGNAL_BYTES == 0
+    n <= MAX_FILE && LENGTH_BYTES <= n && at <= n && (n - at) % SIGNAL_BYTES == 0
 }
 
 // The input that i others stand before.
-pub fn input_at(file: &[u8], i: usize) -> Input
+pub fn input_at(file: &[u8], i: usize) -> Option<u32>
     ensures { input_by result ≡ first (drop i (inputs_in file.now)) }
 {
-    let n = file.len();
     let at = inputs_begin(file);
-    if n < at {
-        return Input::Nothing;
+    let bytes = file.len().checked_sub(at)?;
+    if bytes / SIGNAL_BYTES <= i {
+        return None;
     }
-    if (n - at) / SIGNAL_BYTES <= i {
-        return Input::Nothing;
-    }
-    Input::Word(numbers::get_le(file, at + SIGNAL_BYTES * i, SIGNAL_BYTES) as u32)
+    Some(numbers::get_le(file, at + SIGNAL_BYTES * i, SIGNAL_BYTES) as u32)
 }

@@ -20,6 +20,7 @@ pub fn read_full<R: Read>(input: &mut R, buffer: &mut [u8]) -> io::Result<usize>
     ensures { IfOk result (λ n. n ≤ length buffer.new) }
 {
     let mut count = 0;
+    // Each read says how far the count goes, so no iterator gives the steps.
     while count < buffer.len() {
         let more = input.read(&mut buffer[count..])?;
         if more == 0 {

@@ -40,13 +40,13 @@ use Rattle.spec_tick.specs.StateRecord.{labels_in, encode_state, Decoded, holds,
 use Rattle.spec_tick.specs.AnswerRecord.{encode_answer}
 use Rattle.spec_tick.specs.Tick as tick
 use Rattle.spec_tick.specs.Tick.{written, reacts, byState, by_check, reply_of, replied}
-use Rattle.instants.specs.declared.Standing.{Standing}
-use Rattle.instants.specs.declared.Standing.TheVariants as stands
-use Rattle.instants.specs.declared.Reply.{Reply}
-use Rattle.instants.specs.declared.Reply.TheVariants.{Refused, Reacted}
+use Rattle.std.specs.Prelude.{Result, Ok, Err}
+use Rattle.limits.specs.declared.rows.Refusal.{Refusal}
+use Rattle.limits.specs.Rows.{row_number}
 use Rattle.instants.specs.Written.{WritableCode, Writable, writtenFrom}
 use Rattle.instants.specs.Replies.{StartsAt, Decodes, CallStands, StandsFor, replied_from, Replies}
 use Rattle.theory_tick.proofs.Bounds.{Bounded, Exits, ranged_bounded, bounded_expand, bounded_declared, code_exits}
+use Rattle.limits.proofs.Refusals.{row_not_0}
 
 -- WRITTEN: the code's tree writes what the language's instant does; the signals asked for and the litres are not told
 pub written_from : (j : Traces.Traced) → writtenFrom (reaction_of j) ≡ written (instant_of j)
@@ -57,9 +57,9 @@ written_from (traced (Instants.instant (gives o (leaving m) l t) x n) a y) = rw 
 written_from (traced (Instants.instant (gives o wrong l t) x n) a y) = rw (le_low reactions_bytes n)
 
 -- so what is written from a reply is what its value writes
-pub replied_from_lem : (r : Reply) (d : tick.Reply) → StandsFor r d → (state answer : List ℕ) → replied_from r state answer ≡ replied d state answer
-replied_from_lem (Refused n) d h state answer = ap (λ (x : tick.Reply). replied x state answer) (sym h)
-replied_from_lem (Reacted i) d (t, h, k) state answer =
+pub replied_from_lem : (r : Result Reaction Refusal) (d : tick.Reply) → StandsFor r d → (state answer : List ℕ) → replied_from r state answer ≡ replied d state answer
+replied_from_lem (Err n) d h state answer = ap (λ (x : tick.Reply). replied x state answer) (sym h)
+replied_from_lem (Ok i) d (t, h, k) state answer =
     ap writtenFrom h ∙ written_from t ∙ ap (λ (x : tick.Reply). replied x state answer) (sym k)
 
 -- ---- instants fit the answer record
@@ -74,22 +74,22 @@ writable f t e r i w = subst Writable (sym w) (writable_code (code (react t e)) 
 
 -- ---- before the reaction
 module _ (sequence state : List ℕ) (read_back : ℕ) where
-  pub unchecked : (n : ℕ) → n ≡ check_of sequence read_back → n ≢ 0 → (e : ℕ) → reply_of sequence state e read_back ≡ tick.refused n
+  pub unchecked : (r : Refusal) → row_number r ≡ check_of sequence read_back → (e : ℕ) → reply_of sequence state e read_back ≡ tick.refused (row_number r)
   unfolding check_of
-  unchecked n h z e = go (checked sequence read_back) h
+  unchecked r h e = go (checked sequence read_back) h
     where
-      go : (c : Checked) → n ≡ number_of c → by_check inheritanceFirst read_back c state e ≡ tick.refused n
+      go : (c : Checked) → row_number r ≡ number_of c → by_check inheritanceFirst read_back c state e ≡ tick.refused (row_number r)
       go (bad k) x = ap tick.refused (sym x)
-      go (sound p) x = absurd (z x)
+      go (sound p) x = absurd (row_not_0 r x)
 
-  pub decoded : {t notes : List ℕ} (h : Passed sequence read_back t notes) (r : Standing) → Decodes h.p state r → CallStands sequence state read_back t notes r
-  decoded h (stands.Refused n) d =
+  pub decoded : {t notes : List ℕ} (h : Passed sequence read_back t notes) (r : Result Start Refusal) → Decodes h.p state r → CallStands sequence state read_back t notes r
+  decoded h (Err n) d =
       λ e. ap (λ (c : Checked). by_check inheritanceFirst read_back c state e) h.is ∙ d (program read_back h.p) e
-  decoded h (stands.From origin) d = (h, d)
+  decoded h (Ok origin) d = (h, d)
 
 -- ---- the reply
 module _ (sequence state : List ℕ) (e read_back : ℕ) where
-  pub refused-reply : (n : ℕ) → reply_of sequence state e read_back ≡ tick.refused n → Replies sequence state e read_back (Refused n)
+  pub refused-reply : (n : Refusal) → reply_of sequence state e read_back ≡ tick.refused (row_number n) → Replies sequence state e read_back (Err n)
   refused-reply n h = record { writable = tt; is = h }
 
   module _ (p : Statement) (s : checked sequence read_back ≡ sound p) (ranged : Ranged p) where
@@ -107,7 +107,7 @@ module _ (sequence state : List ℕ) (e read_back : ℕ) where
         ∙ ap (λ (x : Decoded). byState inheritanceFirst q x e) w
 
     reacted : (f : ℕ) (t : Statement) (i : Reaction) → Bounded t → i ≡ reaction_of (start_traced f t e)
-        → reply_of sequence state e read_back ≡ reacts (start t e) → Replies sequence state e read_back (Reacted i)
+        → reply_of sequence state e read_back ≡ reacts (start t e) → Replies sequence state e read_back (Ok i)
     reacted f t i r h k = record { writable = writable f t e r i h; is = (start_traced f t e, h, k) }
 
     -- the expansion by ranks, under the declarations, is the expansion of the program
@@ -117,7 +117,7 @@ module _ (sequence state : List ℕ) (e read_back : ℕ) where
         ∙ sym (expand-declared read_back_place (read_back_signals read_back) p L)
 
     pub started-reply : (f : ℕ) (i : Reaction) (origin : Start) → StartsAt p state origin
-        → i ≡ reaction_of (start_traced f (program read_back (term_at origin p)) e) → Replies sequence state e read_back (Reacted i)
+        → i ≡ reaction_of (start_traced f (program read_back (term_at origin p)) e) → Replies sequence state e read_back (Ok i)
     started-reply f i Fresh d h = reacted f q i bounded h (by-record (holds State.fresh) d)
     started-reply f i (Waiting m) d h =
         let L = labels_in state in

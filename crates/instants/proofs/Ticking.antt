@@ -9,7 +9,9 @@ use borrow.Author.Tests.{eqb-true}
 use Rattle.spec_tick.specs.StateRecord.{state_length}
 use Rattle.spec_tick.specs.AnswerRecord.{answer_length}
 use Rattle.spec_tick.specs.Tick.{outcome, reply_of, tick_by, tick_of}
-use Rattle.instants.specs.declared.Reply.{Reply}
+use Rattle.std.specs.Prelude.{Result}
+use Rattle.limits.specs.declared.rows.Refusal.{Refusal}
+use Rattle.reaction.specs.declared.Reaction.{Reaction}
 use Rattle.instants.specs.Replies.{replied_from, Replies}
 use Rattle.instants.proofs.Replying.{replied_from_lem}
 
@@ -22,7 +24,7 @@ module _ (sequence state : List ℕ) (e read_back : ℕ) (answer : List ℕ) whe
   unfolding tick_by
   unfit n = rw n
 
-  pub as-replied : (eqb (length state) state_length && eqb (length answer) answer_length) ≡ true → (r : Reply) → Replies sequence state e read_back r
+  pub as-replied : (eqb (length state) state_length && eqb (length answer) answer_length) ≡ true → (r : Result Reaction Refusal) → Replies sequence state e read_back r
       → replied_from r state answer ≡ tick_of sequence state e read_back answer
   unfolding tick_by
   as-replied i r h = rw i (replied_from_lem r (reply_of sequence state e read_back) h.is state answer)

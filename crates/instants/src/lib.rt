@@ -13,19 +13,19 @@ ghost use Rattle.layout.specs.Notes.{no_notes};
 ghost use Rattle.instants.specs.Replies.{DecodesRead, CallStands, Replies};
 ghost use Rattle.instants.specs.Delivering.{Delivers};
 ghost use Rattle.spec_tick.specs.Demands.{TickMeets};
+ghost use Rattle.limits.specs.Rows.{call_number};
 
 use layout::SecondParts;
-use limits::rows;
+use limits::rows::Refusal;
 use notes::Notes;
 use program::Start;
 use reaction::{Completion, Deliveries, Reaction};
 use records::{ANSWER_LENGTH, STATE_LENGTH};
-use validity::Validity;
 
 // Writes both records of an instant.
-pub fn finish(state: &mut [u8], answer: &mut [u8], r: Reaction) -> u8
+pub fn finish(state: &mut [u8], answer: &mut [u8], r: Reaction)
     requires { (length state.old ≡ state_length) × (length answer.old ≡ answer_length) × Writable r }
-    ensures { outcome result state.new answer.new ≡ writtenFrom r }
+    ensures { outcome 0 state.new answer.new ≡ writtenFrom r }
 {
     let k = r.completion;
     match k {
@@ -46,15 +46,10 @@ pub fn finish(state: &mut [u8], answer: &mut [u8], r: Reaction) -> u8
             records::write_answer(answer, records::WRONG, kind, place, 0, r.reactions);
         }
     }
-    0
 }
 
 // What a call comes to before it reacts: the row that turns it down, or where its sequence starts.
-#[derive(Clone, Copy)]
-pub enum Standing {
-    Refused(u8),
-    From(Start),
-}
+pub type Standing = Result<Start, Refusal>;
 
 // The standing of a state record, by what reading the sequence noted.
 fn decode(sequence: &[u8], second: &SecondParts, notes: &Notes, state: &[u8]) -> Standing
@@ -64,20 +59,20 @@ fn decode(sequence: &[u8], second: &SecondParts, notes: &Notes, state: &[u8]) ->
     let phase = records::phase(state);
     let labels = records::labels(state);
     if phase == records::WAITING {
-        return match validity::validity_of(sequence, second, notes, labels) {
-            Validity::Valid(active) => Standing::From(Start::Waiting(active)),
-            Validity::Invalid => Standing::Refused(rows::MALFORMED),
-        };
+        let active = validity::valid_ranks(sequence, second, notes, labels).ok_or(
+            Refusal::Malformed,
+        )?;
+        return Ok(Start::Waiting(active));
     }
     if labels::is_empty(labels) {
         if phase == records::FRESH {
-            return Standing::From(Start::Fresh);
+            return Ok(Start::Fresh);
         }
         if phase == records::OVER {
-            return Standing::Refused(rows::OVER);
+            return Err(Refusal::Over);
         }
     }
-    Standing::Refused(rows::MALFORMED)
+    Err(Refusal::Malformed)
 }
 
 // The check, and then the state record. Of a call that is not turned down the table of second parts and the notes of labels are left.
@@ -92,19 +87,12 @@ pub fn begin(
     requires notes_value { notes.old ≡ no_notes }
     ensures { CallStands sequence.now state.now read_back second.new notes.new result }
 {
-    let number = checks::check(sequence, read_back, second, notes);
-    if number != 0 {
-        return Standing::Refused(number);
-    }
+    checks::check(sequence, read_back, second, notes)?;
     decode(sequence, second, notes, state)
 }
 
 // What a call comes to before anything is written: the row that turns it down, or its reaction.
-#[derive(Clone, Copy)]
-pub enum Reply {
-    Refused(u8),
-    Reacted(Reaction),
-}
+pub type Reply = Result<Reaction, Refusal>;
 
 // The core of a tick, a bay's too: the reply, the farms that the sequence names, and the litres of each farm, up to one more than the
 // limit (02, item 12). A call that is turned down leaves `farms` as it was.
@@ -123,38 +111,35 @@ pub fn reply_to(
 {
     let mut second: SecondParts = [0; limits::MAX_BYTES];
     let mut notes: Notes = [0; notes::LENGTH];
-    match begin(sequence, state, read_back, &mut second, &mut notes) {
-        Standing::Refused(row) => Reply::Refused(row),
-        Standing::From(start) => {
-            let named = notes::farms(&notes);
-            *farms = named;
-            Reply::Reacted(program::instant(sequence, start, input, read_back, litres, &second))
-        }
-    }
+    let start = begin(sequence, state, read_back, &mut second, &mut notes)?;
+    *farms = notes::farms(&notes);
+    Ok(program::instant(sequence, start, input, read_back, litres, &second))
 }
 
 // Whether the state and the answer record have their lengths (row 1).
 fn fit(state: usize, answer: usize) -> bool
     ensures { result ≡ (eqb state state_length && eqb answer answer_length) }
 {
-    if state != STATE_LENGTH {
-        return false;
-    }
-    answer == ANSWER_LENGTH
+    state == STATE_LENGTH && answer == ANSWER_LENGTH
 }
 
 // The tick; its litres are not told.
-pub fn tick(sequence: &[u8], state: &mut [u8], input: u32, read_back: u32, answer: &mut [u8]) -> u8
-    ensures { TickMeets result state.new answer.new
+pub fn tick(
+    sequence: &[u8],
+    state: &mut [u8],
+    input: u32,
+    read_back: u32,
+    answer: &mut [u8],
+) -> Result<(), Refusal>
+    ensures { TickMeets (call_number result) state.new answer.new
         sequence.now state.old input read_back answer.old }
 {
-    if fit(state.len(), answer.len()) {
-        let mut farms: u32 = 0;
-        let mut litres: Deliveries = [0; limits::FARMS];
-        return match reply_to(sequence, state, input, read_back, &mut farms, &mut litres) {
-            Reply::Refused(number) => number,
-            Reply::Reacted(reaction) => finish(state, answer, reaction),
-        };
+    if !fit(state.len(), answer.len()) {
+        return Err(Refusal::Length);
     }
-    rows::LENGTH
+    let mut farms: u32 = 0;
+    let mut litres: Deliveries = [0; limits::FARMS];
+    let reaction = reply_to(sequence, state, input, read_back, &mut farms, &mut litres)?;
+    finish(state, answer, reaction);
+    Ok(())
 }

@@ -12,12 +12,14 @@ ghost use Rattle.spec_bay.specs.Stretch.{terms};
 ghost use Rattle.spec_box.specs.Box.{admit, release, tick, save, restore, forget, service, panel, preview, ledger, new_year, call_of};
 ghost use Rattle.spec_unroll.specs.Call.{unrolling, unroll_of};
 
+use limits::rows::call_number;
+
 // The check of a sequence with a read-back set: 0, or the number of the row that turns it down.
 #[unsafe(no_mangle)]
 pub extern "C" fn intake_check(sequence: &[u8], read_back: u32) -> u8
     ensures { result ≡ check_of sequence.now read_back }
 {
-    checks::number(sequence, read_back)
+    call_number(checks::verdict(sequence, read_back))
 }
 
 // The ceiling on the reactions of an instant: 0 for a sequence that the check turns down.
@@ -40,7 +42,7 @@ pub extern "C" fn intake_tick(
     ensures { TickMeets result state.new answer.new
         sequence.now state.old input read_back answer.old }
 {
-    instants::tick(sequence, state, input, read_back, answer)
+    call_number(instants::tick(sequence, state, input, read_back, answer))
 }
 
 // A recording checked against a sequence (02, item 14): 0 and a place, 0 if the recording is accepted and else that of the first record
@@ -54,7 +56,9 @@ pub extern "C" fn intake_replay(
 ) -> u8
     ensures { replayed result place.new ≡ replay_of sequence.now read_back recording.now }
 {
-    replay_call::replay(sequence, read_back, recording, place)
+    let outcome = replay_call::replay(sequence, read_back, recording);
+    *place = outcome.unwrap_or(0);
+    call_number(outcome)
 }
 
 // A bay is admitted, fresh: 0, or the number that turns the call down.
@@ -69,7 +73,7 @@ pub extern "C" fn intake_box_admit(
     ensures { called result memory.new []
         ≡ call_of memory.old bay (admit (terms sequence.now read_back service_only)) }
 {
-    boxes::admit(memory, bay, sequence, read_back, service_only)
+    call_number(boxes::admit(memory, bay, sequence, read_back, service_only))
 }
 
 // A bay is taken out.
@@ -77,7 +81,7 @@ pub extern "C" fn intake_box_admit(
 pub extern "C" fn intake_box_release(memory: &mut [u8], bay: u32) -> u8
     ensures { called result memory.new [] ≡ call_of memory.old bay release }
 {
-    boxes::release(memory, bay)
+    call_number(boxes::release(memory, bay))
 }
 
 // The tick of a bay: an instant leaves its record in `trace` (02, item 10).
@@ -92,7 +96,7 @@ pub extern "C" fn intake_box_tick(
     ensures { called result memory.new (answer.new ∷ trace.new ∷ [])
         ≡ call_of memory.old bay (tick input answer.old trace.old) }
 {
-    boxes::tick(memory, bay, input, answer, trace)
+    call_number(boxes::tick(memory, bay, input, answer, trace))
 }
 
 // The labels of a waiting bay are saved under a name (02, item 9).
@@ -100,7 +104,7 @@ pub extern "C" fn intake_box_tick(
 pub extern "C" fn intake_box_save(memory: &mut [u8], bay: u32, name: u32) -> u8
     ensures { called result memory.new [] ≡ call_of memory.old bay (save name) }
 {
-    boxes::save(memory, bay, name)
+    call_number(boxes::save(memory, bay, name))
 }
 
 // A bay comes back to what was saved under a name.
@@ -108,7 +112,7 @@ pub extern "C" fn intake_box_save(memory: &mut [u8], bay: u32, name: u32) -> u8
 pub extern "C" fn intake_box_restore(memory: &mut [u8], bay: u32, name: u32) -> u8
     ensures { called result memory.new [] ≡ call_of memory.old bay (restore name) }
 {
-    boxes::restore(memory, bay, name)
+    call_number(boxes::restore(memory, bay, name))
 }
 
 // A saved name is given up.
@@ -116,7 +120,7 @@ pub extern "C" fn intake_box_restore(memory: &mut [u8], bay: u32, name: u32) -> 
 pub extern "C" fn intake_box_forget(memory: &mut [u8], bay: u32, name: u32) -> u8
     ensures { called result memory.new [] ≡ call_of memory.old bay (forget name) }
 {
-    boxes::forget(memory, bay, name)
+    call_number(boxes::forget(memory, bay, name))
 }
 
 // The record `trace` whole, for service (02, item 10).
@@ -125,7 +129,7 @@ pub extern "C" fn intake_box_service(memory: &[u8], bay: u32, trace: &[u8], view
     ensures { called result memory.now (view.new ∷ [])
         ≡ call_of memory.now bay (service trace.now view.old) }
 {
-    boxes::service(memory, bay, trace, view)
+    call_number(boxes::service(memory, bay, trace, view))
 }
 
 // What a panel shows of the record `trace`: without service-only signals.
@@ -134,7 +138,7 @@ pub extern "C" fn intake_box_panel(memory: &[u8], bay: u32, trace: &[u8], view: 
     ensures { called result memory.now (view.new ∷ [])
         ≡ call_of memory.now bay (panel trace.now view.old) }
 {
-    boxes::panel(memory, bay, trace, view)
+    call_number(boxes::panel(memory, bay, trace, view))
 }
 
 // What the next instant of a bay comes to while some inputs are of unknown status.
@@ -149,7 +153,7 @@ pub extern "C" fn intake_box_preview(
     ensures { called result memory.now (buffer.new ∷ [])
         ≡ call_of memory.now bay (preview input unknown buffer.old) }
 {
-    boxes::preview(memory, bay, input, unknown, buffer)
+    call_number(boxes::preview(memory, bay, input, unknown, buffer))
 }
 
 // The 32 totals of a bay number's ledger, then the ledger's total (02, item 12).
@@ -158,7 +162,7 @@ pub extern "C" fn intake_box_ledger(memory: &[u8], bay: u32, totals: &mut [u8]) 
     ensures { called result memory.now (totals.new ∷ [])
         ≡ call_of memory.now bay (ledger totals.old) }
 {
-    boxes::read_ledger(memory, bay, totals)
+    call_number(boxes::read_ledger(memory, bay, totals))
 }
 
 // The new year of a bay number: its totals are 0.
@@ -166,7 +170,7 @@ pub extern "C" fn intake_box_ledger(memory: &[u8], bay: u32, totals: &mut [u8]) 
 pub extern "C" fn intake_box_new_year(memory: &mut [u8], bay: u32) -> u8
     ensures { called result memory.new [] ≡ call_of memory.old bay new_year }
 {
-    boxes::new_year(memory, bay)
+    call_number(boxes::new_year(memory, bay))
 }
 
 // The sequence with its loops written out: 0 and its length, or the number of the row that turns the call down and 0.
@@ -180,7 +184,7 @@ pub extern "C" fn intake_unroll(
     ensures { unrolling result result_length.new res.new
         ≡ unroll_of sequence.now read_back res.old }
 {
-    let w = unroll_call::unroll(sequence, read_back, res);
-    *result_length = w.count;
-    w.number
+    let outcome = unroll_call::unroll(sequence, read_back, res);
+    *result_length = outcome.unwrap_or(0);
+    call_number(outcome)
 }

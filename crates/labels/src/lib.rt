@@ -11,7 +11,7 @@ ghost use Rattle.labels.specs.Labels.{label_set};
 use limits::{LABELS, WORD_LABELS};
 
 // The labels below 64, and the others.
-#[derive(Clone, Copy)]
+#[derive(Clone, Copy, Debug, PartialEq, Eq)]
 pub struct Labels {
     low: u64,
     high: u64,
@@ -48,11 +48,7 @@ pub fn member(s: Labels, i: u8) -> bool
     if i < WORD_LABELS {
         return (s.low >> i) % 2 == 1;
     }
-    if i < LABELS {
-        (s.high >> (i - WORD_LABELS)) % 2 == 1
-    } else {
-        false
-    }
+    i < LABELS && (s.high >> (i - WORD_LABELS)) % 2 == 1
 }
 
 pub fn union(s: Labels, t: Labels) -> Labels
@@ -69,35 +65,27 @@ pub fn without(s: Labels, i: u8) -> Labels
 {
     let t = single(i);
     Labels {
-        low: s.low ^ (s.low & t.low),
-        high: s.high ^ (s.high & t.high),
+        low: s.low & !t.low,
+        high: s.high & !t.high,
     }
 }
 
 pub fn is_empty(s: Labels) -> bool
     ensures { result ≡ eqb (label_set s) none }
 {
-    if s.low == 0 { s.high == 0 } else { false }
+    s.low == 0 && s.high == 0
 }
 
 pub fn subset(s: Labels, t: Labels) -> bool
     ensures { (result ≡ true) ↔ Subset (label_set s) (label_set t) }
 {
-    if s.low & t.low == s.low {
-        s.high & t.high == s.high
-    } else {
-        false
-    }
+    s.low & t.low == s.low && s.high & t.high == s.high
 }
 
 pub fn disjoint(s: Labels, t: Labels) -> bool
     ensures { (result ≡ true) ↔ Disjoint (label_set s) (label_set t) }
 {
-    if s.low & t.low == 0 {
-        s.high & t.high == 0
-    } else {
-        false
-    }
+    s.low & t.low == 0 && s.high & t.high == 0
 }
 
 // The lowest member; of the empty set, the width.

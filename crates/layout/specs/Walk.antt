@@ -1,9 +1,10 @@
 -- What the reading traversal answers, and what it leaves in the table of second parts and in the notes.
 -- All offsets are those of the whole sequence.
-use Rattle.std.specs.Prelude.{ℕ, ◌+◌, ◌-◌, ◌*◌, ◌≤◌, ◌<◌, ◌≡◌, List, get_or, length, drop}
+use Rattle.std.specs.Prelude.{ℕ, ◌+◌, ◌-◌, ◌*◌, ◌≤◌, ◌<◌, ◌≡◌, ◌⊎◌, List, get_or, length, drop}
+use Rattle.std.specs.Prelude as std
 use Rattle.std.proofs.Math.Option.{some}
 use Rattle.spec_language.specs.Statement.{Statement, nothing}
-use Rattle.spec_base.specs.Limits.{label_count, signal_count, max_bytes, max_signals}
+use Rattle.spec_base.specs.Limits.{label_count, signal_count, max_bytes, max_signals, command_row, missing_row, operand_row, depth_row, litres_row}
 use Rattle.spec_sequence.specs.Commands.{Command, command_of, partCount, first_operand, head_length, build}
 use Rattle.spec_sequence.specs.Reader.{Read, accepted, refused, Front, command, bad, last_part, first_part, read}
 use Rattle.layout.specs.Layout.{Marked}
@@ -22,6 +23,12 @@ head_of (bad number) = number * row_unit
 abbrev pub packed : (a : ℕ) → Read → ℕ
 packed a (accepted p n) = a + n
 packed a (refused number) = number * row_unit
+
+-- r packs a row of reading (01, rows 3 to 6; 02, item 12)
+abbrev pub Packed : ℕ → Type 0
+Packed r =
+    (r ≡ command_row * row_unit) ⊎ (r ≡ missing_row * row_unit) ⊎ (r ≡ operand_row * row_unit) ⊎ (r ≡ depth_row * row_unit)
+    ⊎ (r ≡ litres_row * row_unit)
 
 -- ---- the traversal, while the table t becomes u and the notes m become n
 -- what it requires: the bytes from offset a on are within the limit, no more than a pauses came before, and no more signals are
@@ -72,9 +79,10 @@ pub record Fitting (a : ℕ) (bs m : List ℕ) : Type 0 where
 abbrev pub LeafRead : (depth a : ℕ) → (bs m n : List ℕ) → ℕ → Type 0
 LeafRead depth a bs m n r = (signals : ℕ) (t : List ℕ) → Done signals a t t m n (read depth signals a bs) r
 
--- the answer r, or r is 0 and nothing is noted
-abbrev pub Ahead : (depth a : ℕ) → (bs m n : List ℕ) → ℕ → Type 0
-Ahead depth a bs m n r = (r ≡ 0 → n ≡ m) × ((r ≡ 0 → ⊥) → LeafRead depth a bs m n r)
+-- the answer, or none and nothing is noted
+abbrev pub Ahead : (depth a : ℕ) → (bs m n : List ℕ) → std.Option ℕ → Type 0
+Ahead depth a bs m n std.None = n ≡ m
+Ahead depth a bs m n (std.Some r) = LeafRead depth a bs m n r
 
 -- ---- the two parts of a command
 -- the two parts of the command c at offset a with operands xs, by a reader r of parts; bs is behind the command

@@ -1,4 +1,5 @@
 // The kinds of error of an instant (01, 'One reaction').
+// Numbers: public functions take any byte as a kind, and an enum would ask more of their callers.
 // A loop whose body ended.
 pub const INSTANTANEOUS: u8 = 1;
 

@@ -16,7 +16,8 @@ pub const SIGNALS: u8 = 32;
 
 pub const MAX_EXIT: u8 = 15;
 
-// The command bytes (01, 'Commands'; 0B by 02, item 1, 0C by item 12).
+// The command bytes (01, 'Commands'; 0B by 02, item 1, 0C by item 12): bytes of the format, and no enum, since a `match` on the byte has the
+// same arms and needs none for a byte without a command.
 pub const NOTHING: u8 = 0;
 
 pub const PAUSE: u8 = 1;
@@ -83,10 +84,8 @@ pub const MAX_POSITIONS: usize = 16;
 
 pub const NAME_BYTES: usize = 4;
 
-// The bytes of the number of an instant, and the greatest one (02, item 10).
+// The bytes of the number of an instant (02, item 10).
 pub const NUMBER_BYTES: usize = 4;
-
-pub const LAST_NUMBER: u32 = 4294967295;
 
 // A box has so many bays, and they share a ceiling (02, item 8); a preview takes at most so many unknown inputs (02, item 11).
 pub const BAYS: usize = 8;

@@ -3,8 +3,8 @@ use Prim.Native.Nat.{ℕ, suc, ◌+◌, ◌-◌, ◌≤◌, ◌<◌}
 use native.Mathlib.Omega.{arith}
 use mathlib.Core.Path.{◌≡◌, refl, sym, ap, ap₂, ◌∙◌, subst}
 use mathlib.Core.List.{List, [], ◌∷◌, ◌++◌, append-nil, append_assoc}
-use lib.ListN.{length, get_or, take, drop, set, length-append, length-set}
-use lib.Seq.{take-set-le, drop-set-lt, drop-cons, get_or-set_same, take-take, take-suc}
+use lib.ListN.{length, take, drop, set, length-append, length-set}
+use lib.Seq.{take-set-le, drop-set-lt, drop-cons, get_or-set_same, take-take}
 use Rattle.lines.specs.Buffer.{Prepended}
 
 pub one : (l : List ℕ) (i x : ℕ) → i < length l → Prepended l (suc i) (x ∷ []) (set l i x) i
@@ -59,13 +59,3 @@ end_filling {l₀} {l} {text} {end} {from} f = subst (λ (t : List ℕ). Prepend
 
 pub under : {l₀ l text todo : List ℕ} {end from : ℕ} → Filling l₀ end text l from todo → from ≤ end
 under f = omega (arith, f.put.fits)
-
--- the loop over a text: its first `left` bytes are still to be put
-pub text_again : {l₀ l text : List ℕ} {end from left : ℕ} → Filling l₀ end text l from (take left text) → 0 < left → left ≤ length text
-    → 0 < from → from ≤ length l
-    → Filling l₀ end text (set l (from - 1) (get_or text (left - 1) 0)) (from - 1) (take (left - 1) text)
-text_again {l₀} {l} {text} {end} {from} {left} f pos le room le' =
-    let e : left ≡ suc (left - 1) = omega arith in
-    let cut : take left text ≡ take (left - 1) text ++ (get_or text (left - 1) 0 ∷ [])
-    = ap (λ (n : ℕ). take n text) e ∙ take-suc text (left - 1) 0 (omega arith) in
-    again (get_or text (left - 1) 0) (subst (λ (t : List ℕ). Filling l₀ end text l from t) cut f) room le'

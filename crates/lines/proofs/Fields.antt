@@ -1,21 +1,16 @@
 -- Laws of a row: the fields that the records hold, each put before the next.
-use Prim.Native.Nat.{ℕ, ◌+◌, ◌^◌, ◌<◌}
-use native.Mathlib.Omega.{arith}
-use mathlib.Core.Path.{◌≡◌, sym, ap, ◌∙◌, subst}
-use mathlib.Core.List.{List, [], ◌∷◌, ◌++◌, append_assoc}
+use Prim.Native.Nat.{ℕ}
+use mathlib.Core.Path.{◌≡◌, subst}
+use mathlib.Core.List.{List, ◌++◌}
 use lib.ListN.{length}
-use Rattle.spec_base.specs.Limits.{word_labels}
-use Rattle.spec_base.specs.Widths.{two_words}
 use Rattle.spec_tick.specs.StateRecord.{labels_in}
 use Rattle.spec_tick.specs.AnswerRecord.{code_in, kind_in, place_in, emitted_in}
-use Rattle.spec_programs.specs.Text.{numeral, space, newline}
 use Rattle.spec_programs.specs.Listing.{numbers_of, sets_of, line_of, entry_read}
-use Rattle.lines.specs.declared.Line.{Line}
+use Rattle.lines.specs.declared.line.Line.{Line}
 use Rattle.lines.specs.Buffer.{Prepended}
 use Rattle.lines.specs.Shown.{line_length, Displays}
 use Rattle.lines.proofs.Lines.{shown}
 use Rattle.lines.proofs.Buffers.{before}
-use Rattle.lines.proofs.Numerals.{numeral-split}
 
 -- what a row reads of the records
 pub record Fields (state answer : List ℕ) (labels emitted place kind code : ℕ) : Type 0 where

@@ -6,30 +6,24 @@ ghost use Rattle.spec_programs.specs.Text.{numeral, digit as Text·digit, newlin
 ghost use Rattle.lines.specs.Buffer.{Prepended};
 ghost use Rattle.spec_base.specs.Limits.{word_labels};
 ghost use Rattle.spec_base.specs.Widths.{two_words};
-ghost use Rattle.lines.specs.Shown.{line_length, most_words, Displays};
+ghost use Rattle.lines.specs.Shown.{line_length, most_words, Displays, failure_of};
 ghost use Rattle.spec_programs.specs.Listing.{numbers_of, sets_of, line_in};
+
+mod line;
+
+use files::FileError;
+use limits::rows::row_number;
+pub use line::{LINE_LENGTH, Line};
 
 fn digit(d: u64) -> u8
     requires { d < 16 }
     ensures { result ≡ Text·digit d }
 {
-    if d < 10 { 48 + d as u8 } else { 87 + d as u8 }
-}
-
-fn one_less(n: usize) -> usize
-    ensures { result ≡ n - 1 }
-{
-    if n == 0 { 0 } else { n - 1 }
-}
-
-// Puts one byte before `end`, and answers where it stands.
-fn put_byte(line: &mut [u8], end: usize, b: u8) -> usize
-    requires { (0 < end) × (end ≤ length line.old) }
-    ensures { Prepended line.old end (b ∷ []) line.new result }
-{
-    let from = end - 1;
-    line[from] = b;
-    from
+    if d < 10 {
+        b'0' + d as u8
+    } else {
+        b'a' + (d as u8 - 10)
+    }
 }
 
 // Puts the numeral of x with at least `width` digits before `end`, and answers where it begins.
@@ -40,11 +34,12 @@ fn put_numeral(line: &mut [u8], end: usize, base: u64, width: usize, x: u64) -> 
     let mut from = end;
     let mut left = width;
     let mut rest = x;
+    // The digits are made from the last one on, and the number itself says when there are no more: no iterator counts them.
     while 0 < left || 0 < rest {
         from -= 1;
         line[from] = digit(rest % base);
-        rest = rest / base;
-        left = one_less(left);
+        rest /= base;
+        left = left.saturating_sub(1);
     }
     from
 }
@@ -54,13 +49,8 @@ fn put_text(line: &mut [u8], end: usize, text: &[u8]) -> usize
     requires { (length text.now ≤ end) × (end ≤ length line.old) }
     ensures { Prepended line.old end text.now line.new result }
 {
-    let mut from = end;
-    let mut left = text.len();
-    while 0 < left {
-        from -= 1;
-        left -= 1;
-        line[from] = text[left];
-    }
+    let from = end - text.len();
+    line[from..end].copy_from_slice(text);
     from
 }
 
@@ -70,18 +60,8 @@ fn put_field(line: &mut [u8], end: usize, base: u64, width: usize, x: u64, after
     ensures prepended { Prepended line.old end (numeral base width x ++ after ∷ []) line.new result }
     ensures end_bound { end ≤ result + 21 }
 {
-    let at = put_byte(line, end, after);
+    let at = put_text(line, end, &[after]);
     put_numeral(line, at, base, width, x)
-}
-
-// The bytes of a line's buffer.
-pub const LINE_LENGTH: usize = 160;
-
-// A line: its text is the bytes from `from` on. The greatest takes at most 138 bytes.
-#[derive(Clone, Copy)]
-pub struct Line {
-    pub bytes: [u8; LINE_LENGTH],
-    pub from: usize,
 }
 
 // A line of some words and a decimal number.
@@ -92,10 +72,7 @@ pub fn numbered(words: &[u8], number: u64) -> Line
     let mut bytes = [0u8; LINE_LENGTH];
     let at = put_field(&mut bytes, LINE_LENGTH, 10, 1, number, b'\n');
     let from = put_text(&mut bytes, at, words);
-    Line {
-        bytes: bytes,
-        from: from,
-    }
+    Line { bytes, from }
 }
 
 // The line for a sequence that the check turns down.
@@ -110,6 +87,16 @@ pub fn cut() -> Line
     ensures { Displays result input_cut }
 {
     fixed(b"input cut\n")
+}
+
+// The line for a file that comes to nothing.
+pub fn failure(error: FileError) -> Line
+    ensures { Displays result (failure_of error) }
+{
+    match error {
+        FileError::Cut => cut(),
+        FileError::Refused(row) => refusal(row_number(row)),
+    }
 }
 
 // The first line of a run.
@@ -143,10 +130,7 @@ fn fixed(words: &[u8]) -> Line
 {
     let mut bytes = [0u8; LINE_LENGTH];
     let from = put_text(&mut bytes, LINE_LENGTH, words);
-    Line {
-        bytes: bytes,
-        from: from,
-    }
+    Line { bytes, from }
 }
 
 // The fields of a row that are numerals to the base 10, before `end`.
@@ -185,10 +169,7 @@ pub fn instant_line(instant: u64, state: &[u8], answer: &[u8]) -> Line
     let mut bytes = [0u8; LINE_LENGTH];
     let at = put_sets(&mut bytes, emitted, low, high);
     let from = put_numbers(&mut bytes, at, instant, code, kind, place);
-    Line {
-        bytes: bytes,
-        from: from,
-    }
+    Line { bytes, from }
 }
 
 // The same of the instant behind i others.

@@ -22,7 +22,7 @@ use Rattle.listing.specs.Pieces.{Prints}
 -- a line with the text, and a run at the next stage
 pub printed : {text : List ℕ} (file : List ℕ) (piece : Piece) (next : Listing.Stage) → Displays piece.line text → stage_in file piece.run ≡ next
     → Prints file (Listing.turn text next) piece
-printed file piece next s e = record { result = ap₂ Listing.turn s.told e; within = s.within; sized = s.sized }
+printed file piece next s e = record { result = ap₂ Listing.turn s.told e; sized = s.sized }
 
 -- ---- an instant
 stage_after_lem : (b : Bool) (file after : List ℕ) (i : ℕ)

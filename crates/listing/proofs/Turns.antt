@@ -2,7 +2,7 @@
 use Prim.Native.Nat.{ℕ}
 use native.Mathlib.Omega.{arith}
 use mathlib.Core.Option.{none}
-use mathlib.Core.Path.{◌≡◌, refl, sym, ap, ◌∙◌}
+use mathlib.Core.Path.{◌≡◌, refl, sym, ap}
 use mathlib.Core.List.{List, [], ◌∷◌}
 use Rattle.spec_programs.specs.Text.{ending}
 use Rattle.spec_programs.specs.File.{file_of, first}
@@ -10,7 +10,10 @@ use Rattle.spec_programs.specs.Stages as Listing
 use Rattle.listing.specs.declared.Stage.{Stage}
 use Rattle.listing.specs.declared.Run.{Run}
 use Rattle.listing.specs.Stages.{stage_by, stage_in}
-use Rattle.listing.specs.declared.Opened.{Opened}
+use Rattle.std.specs.Prelude.{Err}
+use Rattle.files.specs.declared.FileError.{FileError}
+use Rattle.files.specs.declared.FileError.TheVariants.{Cut, Refused}
+use Rattle.lines.specs.Shown.{failure_of}
 use Rattle.listing.specs.Opened.{file_by}
 
 pub no_turn : (s : List ℕ) (b : ℕ) (state : List ℕ) (j : ℕ) (es : List ℕ) → first es ≡ none
@@ -20,9 +23,9 @@ no_turn s b state j [] h = refl
 no_turn s b state j (e ∷ es) h = absurd (let z : ◌≡◌ {A = ℕ} 0 1 = cc in omega arith)
 
 -- ---- the arms of a match
-pub opened_by : (file : List ℕ) (r r' : Opened) → file_by file r ≡ file_of file → r ≡ r'
-    → Listing.opened (file_by file r') ≡ Listing.opened (file_of file)
-opened_by file r r' h e = ap Listing.opened (sym (ap (file_by file) e) ∙ h)
+pub opened_failure : (file : List ℕ) (error : FileError) → Listing.turn (failure_of error) Listing.finished ≡ Listing.opened (file_by file (Err error))
+opened_failure file Cut = refl
+opened_failure file (Refused row) = refl
 
 pub turn_by : (file : List ℕ) (run : Run) (g : Stage) → run.stage ≡ g
     → Listing.turn_of (stage_by file g run.state) ≡ Listing.turn_of (stage_in file run)

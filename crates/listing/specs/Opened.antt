@@ -1,10 +1,11 @@
 -- What the code's answer stands for: a file.
-use Rattle.std.specs.Prelude.{ℕ, List}
+use Rattle.std.specs.Prelude.{ℕ, List, Result, Ok, Err}
 use Rattle.spec_programs.specs.File.{File, cut, refused, runs, sequence_in, read_back_in, inputs_in}
-use Rattle.listing.specs.declared.Opened.{Opened}
-use Rattle.listing.specs.declared.Opened.TheVariants as opens
+use Rattle.limits.specs.Rows.{row_number}
+use Rattle.files.specs.declared.FileError.{FileError}
+use Rattle.files.specs.declared.FileError.TheVariants as errors
 
-abbrev pub file_by : List ℕ → Opened → File
-file_by file opens.Cut = cut
-file_by file (opens.Refused number) = refused number
-file_by file opens.Runs = runs (sequence_in file) (read_back_in file) (inputs_in file)
+abbrev pub file_by : List ℕ → Result (Unit {0}) FileError → File
+file_by file (Err errors.Cut) = cut
+file_by file (Err (errors.Refused row)) = refused (row_number row)
+file_by file (Ok done) = runs (sequence_in file) (read_back_in file) (inputs_in file)

@@ -1,5 +1,5 @@
 -- What the code's answer stands for: a turn.
-use Rattle.std.specs.Prelude.{ℕ, ◌≤◌, ◌≡◌, List, length, drop}
+use Rattle.std.specs.Prelude.{ℕ, ◌≡◌, List, length, drop}
 use Rattle.spec_programs.specs.Stages as Listing
 use Rattle.listing.specs.declared.Stage.TheVariants as stages
 use Rattle.listing.specs.Stages.{stage_by, stage_in}
@@ -13,5 +13,4 @@ turn_at file state i = Listing.turn_of (stage_by file (stages.Running i) state)
 -- the piece has the text of t and the next stage of t
 pub record Prints (file : List ℕ) (t : Listing.Turn) (piece : Piece) : Type 0 where
   pub result : Listing.turn (drop piece.line.from piece.line.bytes) (stage_in file piece.run) ≡ t
-  pub within : piece.line.from ≤ line_length
   pub sized : length piece.line.bytes ≡ line_length

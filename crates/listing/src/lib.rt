@@ -13,12 +13,12 @@ ghost use Rattle.spec_tick.specs.Demands.{cleared};
 ghost use Rattle.spec_programs.specs.Text.{heading as Text·heading};
 ghost use Rattle.lines.specs.Shown.{Displays};
 
-use files::Input;
+use files::FileError;
 use lines::Line;
 use records::{ANSWER_LENGTH, STATE_LENGTH};
 
 // Before the first line, before the instant that so many inputs precede, before `end`, or after it.
-#[derive(Clone, Copy)]
+#[derive(Clone, Copy, Debug, PartialEq, Eq)]
 pub enum Stage {
     Opening,
     Running(usize),
@@ -27,7 +27,7 @@ pub enum Stage {
 }
 
 // A run under way: its stage, and the machine's state record.
-#[derive(Clone, Copy)]
+#[derive(Clone, Copy, Debug, PartialEq, Eq)]
 pub struct Run {
     pub stage: Stage,
     pub state: [u8; STATE_LENGTH],
@@ -47,13 +47,7 @@ pub fn start() -> Run
 pub fn is_finished(run: Run) -> bool
     ensures { (file : List ℕ) → result ≡ isFinished (stage_in file run) }
 {
-    let stage = run.stage;
-    match stage {
-        Stage::Opening => false,
-        Stage::Running(_) => false,
-        Stage::Closing => false,
-        Stage::Finished => true,
-    }
+    matches!(run.stage, Stage::Finished)
 }
 
 // The stage after an instant: a machine that is over ends the run, or else i inputs precede the next instant.
@@ -67,29 +61,19 @@ fn following(phase: u8, i: usize) -> Stage
     }
 }
 
-#[derive(Clone, Copy)]
-pub enum Opened {
-    Cut,
-    Refused(u8),
-    Runs,
-}
-
-fn open(file: &[u8]) -> Opened
+// Whether a file can be run.
+fn open(file: &[u8]) -> Result<(), FileError>
     ensures { file_by file.now result ≡ file_of file.now }
 {
     if !files::is_whole(file) {
-        return Opened::Cut;
+        return Err(FileError::Cut);
     }
-    let read_back = files::read_back(file);
-    let number = checks::number(files::sequence(file), read_back);
-    if number == 0 {
-        return Opened::Runs;
-    }
-    Opened::Refused(number)
+    checks::verdict(files::sequence(file), files::read_back(file))?;
+    Ok(())
 }
 
 // A piece of a listing, and the run after it.
-#[derive(Clone, Copy)]
+#[derive(Clone, Copy, Debug, PartialEq, Eq)]
 pub struct Piece {
     pub line: Line,
     pub run: Run,
@@ -103,29 +87,22 @@ fn instant(file: &[u8], i: usize, e: u32, state: [u8; STATE_LENGTH]) -> Piece
     let mut after = state;
     let mut answer = [0u8; ANSWER_LENGTH];
     let read_back = files::read_back(file);
-    instants::tick(files::sequence(file), &mut after, e, read_back, &mut answer);
+    let _ = instants::tick(files::sequence(file), &mut after, e, read_back, &mut answer);
     let line = lines::line_behind(i, &after, &answer);
     let run = Run {
         stage: following(records::phase(&after), i + 1),
         state: after,
     };
-    Piece {
-        line: line,
-        run: run,
-    }
+    Piece { line, run }
 }
 
 // The next piece of the listing of a file; after the last one all are empty.
 pub fn turn(file: &[u8], run: Run) -> Piece
     ensures { Prints file.now (turn_of (stage_in file.now run)) result }
 {
-    let stage = run.stage;
-    match stage {
+    match run.stage {
         Stage::Opening => opening(file),
-        Stage::Running(i) => {
-            let state = run.state;
-            step(file, i, state)
-        }
+        Stage::Running(i) => step(file, i, run.state),
         Stage::Closing => last(lines::ending()),
         Stage::Finished => last(lines::nothing()),
     }
@@ -139,10 +116,7 @@ fn last(line: Line) -> Piece
         stage: Stage::Finished,
         state: [0; STATE_LENGTH],
     };
-    Piece {
-        line: line,
-        run: run,
-    }
+    Piece { line, run }
 }
 
 // The first piece: the heading, or why there is no run.
@@ -150,9 +124,8 @@ fn opening(file: &[u8]) -> Piece
     ensures { Prints file.now (opened (file_of file.now)) result }
 {
     match open(file) {
-        Opened::Cut => last(lines::cut()),
-        Opened::Refused(number) => last(lines::refusal(number)),
-        Opened::Runs => heading(),
+        Ok(()) => heading(),
+        Err(error) => last(lines::failure(error)),
     }
 }
 
@@ -176,7 +149,7 @@ fn step(file: &[u8], i: usize, state: [u8; STATE_LENGTH]) -> Piece
     ensures { Prints file.now (turn_at file.now state i) result }
 {
     match files::input_at(file, i) {
-        Input::Nothing => last(lines::ending()),
-        Input::Word(e) => instant(file, i, e, state),
+        None => last(lines::ending()),
+        Some(e) => instant(file, i, e, state),
     }
 }

@@ -18,7 +18,7 @@ four s i h =
     ∙ ap (λ (l : List ℕ). get_or s (suc (suc i)) 0 ∷ l) (drop-cons s (suc (suc (suc i))) 0 (omega arith))))
 
 pub four_bytes : (s : List ℕ) (i : ℕ) → i + 4 ≤ length s
-    → get_or s i 0 + 256 * get_or s (i + 1) 0 + 65536 * get_or s (i + 2) 0 + 16777216 * get_or s (i + 3) 0 ≡ le_number (take 4 (drop i s))
+    → get_or s i 0 + get_or s (i + 1) 0 * 256 + get_or s (i + 2) 0 * 65536 + get_or s (i + 3) 0 * 16777216 ≡ le_number (take 4 (drop i s))
 unfolding le_number
 four_bytes s i h =
     let one : i + 1 ≡ suc i = omega arith in

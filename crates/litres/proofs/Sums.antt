@@ -1,7 +1,7 @@
 -- Sums of whole single-precision numbers. Assumes nothing.
 use mathlib.Core.Path.{◌≡◌, refl, sym, ap, ◌∙◌, subst}
 use Prim.Native.Nat.{ℕ, zero, suc, ◌+◌, ◌-◌, ◌*◌, ◌/◌, ◌%◌, ◌^◌, ◌≤◌, ◌<◌}
-use native.Mathlib.Nat.{mul-one, mul_comm, mul_assoc, mul_left_comm, add-mul, mul-pos, zero-lt-suc, add-zero, zero-add, div-add-mod', mul-le-mul_right}
+use native.Mathlib.Nat.{mul-one, mul_comm, mul_assoc, mul_left_comm, add-mul, mul-pos, zero-lt-suc, add-zero, zero-add, div-add-mod'}
 use native.Mathlib.Omega.{arith}
 use native.Mathlib.Numerals.{add-one}
 use mathlib.Core.Bool.{Bool, true, false, not, ◌&&◌}
@@ -9,7 +9,7 @@ use lib.IntN.{pos}
 use lib.Dec.{T, leb, ltb, eqb, eqb→eq, leb→le, le→leb, lit<, lit≤}
 use lib.Ieee.{Float, nan, inf, fin, Format, binary32, up, down, round, sum, add, of_int, in_unsigned, in_float, is_nan, nan_bits, of_bits, to_bits}
 use lib.Ieee.Bits.{nan_bits_is, of_bits-to_bits}
-use lib.Ieee.Fits.{add-fits, down_pos, and_i, and_l, and_r}
+use lib.Ieee.Fits.{add-fits, down_pos, and_l, and_r}
 use lib.Ieee.Exact.{HasValue}
 use lib.Ieee.Back.{unsigned_back}
 use lib.Ieee.Casts.{to_unsigned_cut}

@@ -22,11 +22,10 @@ pub fn is_whole(v: u32) -> bool
     (0x80_0000 + v % 0x80_0000) % unit == 0
 }
 
-// The four bytes at an offset as a pattern, lowest first. Written out, so that it is one load.
+// The four bytes at an offset as a pattern, lowest first.
 pub fn bits(s: &[u8], at: usize) -> u32
     requires { at + 4 ≤ length s.now }
     ensures { result ≡ number_at at 4 s.now }
 {
-    let low = s[at] as u32 + 256 * s[at + 1] as u32;
-    low + 65536 * s[at + 2] as u32 + 16777216 * s[at + 3] as u32
+    u32::from_le_bytes([s[at], s[at + 1], s[at + 2], s[at + 3]])
 }

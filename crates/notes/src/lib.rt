@@ -2,7 +2,7 @@
 // the ranks of the pauses, the most signals around a command, the farms named by 0C.
 #![tactic(auto)]
 
-ghost use Rattle.std.specs.Prelude.{◌≡◌, ◌<◌, ◌-◌, ◌≤◌, max, ◌^◌, cond, ltb};
+ghost use Rattle.std.specs.Prelude.{◌≡◌, ◌<◌, ◌-◌, ◌≤◌, ◌^◌, cond, ltb};
 ghost use Rattle.spec_base.specs.Limits.{label_count, max_bytes, signal_count, max_signals};
 ghost use Rattle.layout.specs.Notes.{pauses_counted, notePause, noteSetpause, noteFarm, note_signals, pausesIn, setpausesIn, twice_in, most_in, farms_in, rank_in};
 ghost use Rattle.spec_base.specs.Sets.{empty};
@@ -64,19 +64,13 @@ fn note_farm(s: u8, notes: &mut Notes)
     notes[FARMS] = notes[FARMS] | (1u64 << s);
 }
 
-fn greater(a: u64, b: u64) -> u64
-    ensures { result ≡ max a b }
-{
-    if a < b { b } else { a }
-}
-
 // A signal command was read, inside which so many more are allowed.
 pub fn signal(left: u8, notes: &mut Notes)
     requires { left ≤ max_signals }
     ensures { notes.new ≡ note_signals (max_signals - left) notes.old }
 {
     let around = limits::MAX_SIGNALS - left;
-    notes[MOST] = greater(notes[MOST], around as u64);
+    notes[MOST] = notes[MOST].max(u64::from(around));
 }
 
 // The command b without parts was read, whose first operand byte is x; one without a label and without litres leaves no note.

@@ -1,6 +1,5 @@
 pub mod Bytes
 pub mod Copies
-pub mod Parts
 pub mod Putting
 pub mod Reading
 pub mod Theorems

@@ -6,6 +6,7 @@ use mathlib.Core.List.{List, ◌++◌, append_assoc}
 use lib.ListN.{length, take, drop, length-append, length-drop, take-append-drop}
 use lib.Seq.{sets, sets-eq, take_at, drop_at, drop-drop, length-take-le, take-append-le, drop-append-le}
 use Rattle.spec_base.specs.Parts.{slot, put}
+use Rattle.numbers.proofs.Writing.{sets-whole}
 
 -- what stands in the front of a list is read from it alone
 pub slot-front : (i m : ℕ) (xs ys : List ℕ) → i + m ≤ length xs → slot i m (xs ++ ys) ≡ slot i m xs
@@ -80,6 +81,15 @@ module _ (at n : ℕ) (bytes s : List ℕ) (fits : at + n ≤ length s) (sized :
       sets-eq bytes s at (omega arith)
       ∙ append_assoc (take at s) bytes (drop (at + length bytes) s)
       ∙ ap (λ (r : List ℕ). take at s ++ (bytes ++ r)) (ap (λ (k : ℕ). drop (at + k) s) sized ∙ sym (drop-drop n at s))
+
+  -- a part of m bytes that holds the run of stores at its front, put back
+  pub stored_part : (part : List ℕ) (m : ℕ) → m ≡ n → part ≡ sets (take m (drop at s)) 0 bytes → take at s ++ (part ++ drop m (drop at s)) ≡ sets s at bytes
+  unfolding put
+  stored_part part m e h =
+      let k : length (drop at s) ≡ length s - at = length-drop at s in
+      let long : length (take m (drop at s)) ≡ m = length-take-le m (drop at s) (omega (arith, k)) in
+      let w : part ≡ bytes = h ∙ sets-whole (take m (drop at s)) bytes (sized ∙ sym (long ∙ e)) in
+      rw (w, e) (sym stored)
 
   -- bytes put behind bytes put
   pub put_next : (m : ℕ) (more : List ℕ) → put (at + n) m more (put at n bytes s) ≡ put at (n + m) (bytes ++ more) s

@@ -1,9 +1,9 @@
 -- Laws of the loop that writes a number as bytes, over every number of bytes, of runs of stores, and of a buffer that a record is written to.
-use mathlib.Core.Path.{◌≡◌, refl, sym, ap, ap₂, ◌∙◌}
+use mathlib.Core.Path.{◌≡◌, refl, sym, ap, ◌∙◌}
 use mathlib.Core.Logic.{◌≢◌}
 use mathlib.Core.List.{List, [], ◌∷◌, ◌++◌, append-nil}
-use Prim.Native.Nat.{ℕ, zero, suc, ◌+◌, ◌-◌, ◌/◌, ◌%◌, ◌≤◌, ◌<◌}
-use native.Mathlib.Nat.{not-suc-le-zero, zero-add}
+use Prim.Native.Nat.{ℕ, suc, ◌+◌, ◌-◌, ◌/◌, ◌%◌, ◌≤◌, ◌<◌}
+use native.Mathlib.Nat.{zero-add}
 use native.Mathlib.Numerals.{add-one}
 use native.Mathlib.Omega.{arith}
 use lib.ListN.{length, drop, set}
@@ -12,18 +12,17 @@ use borrow.Author.Tests.{eq-eqb, ne_eqb}
 use Rattle.spec_base.specs.Bytes.{le_bytes, replaced}
 
 -- one store of the loop that writes
-pub put_step : (b : List ℕ) (i left rest : ℕ) → 0 < left → sets (set b i (rest % 256)) (i + 1) (le_bytes (left - 1) (rest / 256)) ≡ sets b i (le_bytes left rest)
+pub put_step : (b : List ℕ) (n i rest : ℕ) → i < n → sets (set b i (rest % 256)) (i + 1) (le_bytes (n - (i + 1)) (rest / 256)) ≡ sets b i (le_bytes (n - i) rest)
 unfolding le_bytes
-put_step b i zero rest h = absurd (not-suc-le-zero h)
-put_step b i (suc m) rest h =
-    let e : suc m - 1 ≡ m = omega arith in
-    ap₂ (λ (j k : ℕ). sets (set b i (rest % 256)) j (le_bytes k (rest / 256))) (add-one i) e
+put_step b n i rest h =
+    let e : n - i ≡ suc (n - (i + 1)) = omega arith in
+    rw (e, add-one i) refl
 
-pub put_end : (b c : List ℕ) (i left rest : ℕ) → sets b i (le_bytes left rest) ≡ c → left ≤ 0 → b ≡ c
+pub put_end : (b c : List ℕ) (n i rest : ℕ) → sets b i (le_bytes (n - i) rest) ≡ c → n ≤ i → b ≡ c
 unfolding le_bytes
-put_end b c i left rest e h =
-    let z : ◌≡◌ {A = ℕ} 0 left = omega arith in
-    ap (λ (n : ℕ). sets b i (le_bytes n rest)) z ∙ e
+put_end b c n i rest e h =
+    let z : ◌≡◌ {A = ℕ} 0 (n - i) = omega arith in
+    ap (λ (m : ℕ). sets b i (le_bytes m rest)) z ∙ e
 
 -- ---- runs of stores
 

@@ -2,16 +2,12 @@
 ghost use Rattle.std.specs.Prelude.{◌≡◌, ◌+◌, ◌≤◌, length};
 ghost use Rattle.std.proofs.lemmas.List.Edits.{sets};
 
-// Writes bytes from index at on.
+// Writes bytes from index at on, one by one: `copy_from_slice` calls memcpy, and the archive asks C for memset alone.
 pub fn put_bytes(buf: &mut [u8], at: usize, bytes: &[u8])
     requires { at + length bytes.now ≤ length buf.old }
     ensures { buf.new ≡ sets buf.old at bytes.now }
 {
-    let mut i = at;
-    let mut j = 0;
-    while j < bytes.len() {
-        buf[i] = bytes[j];
-        i += 1;
-        j += 1;
+    for (i, &byte) in bytes.iter().enumerate() {
+        buf[at + i] = byte;
     }
 }

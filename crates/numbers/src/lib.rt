@@ -8,31 +8,13 @@ ghost use Rattle.std.specs.Prelude.{◌≡◌, ◌+◌, ◌^◌, ◌≤◌, ◌<
 ghost use Rattle.std.proofs.lemmas.List.Edits.{sets};
 ghost use Rattle.spec_base.specs.Bytes.{le_bytes, le_number, at_most8, number_at};
 
-fn wide(x: u8) -> u64
-    ensures { result ≡ x }
-{
-    x as u64
-}
-
-fn at_most_8(n: usize) -> usize
-    ensures { result ≡ at_most8 n }
-{
-    if n <= 8 { n } else { 8 }
-}
-
 // The bytes of s from `from` on, at most `count` of them.
 pub fn part(s: &[u8], from: usize, count: usize) -> &[u8]
     ensures { result.now ≡ take count (drop from s.now) }
 {
-    let n = s.len();
-    if n <= from {
-        return &s[n..n];
-    }
-    if n - from <= count {
-        return &s[from..n];
-    }
-    let end = from + count;
-    &s[from..end]
+    let start = from.min(s.len());
+    let n = count.min(s.len() - start);
+    &s[start..start + n]
 }
 
 // The number that n bytes from index at on are, where all are there.
@@ -42,10 +24,8 @@ fn read_le(b: &[u8], at: usize, n: usize) -> u64
     ensures upper_bound { result < 256 ^ n }
 {
     let mut x: u64 = 0;
-    let mut k = n;
-    while 0 < k {
-        k -= 1;
-        x = x * 256 + wide(b[at + k]);
+    for &byte in b[at..at + n].iter().rev() {
+        x = x * 256 + u64::from(byte);
     }
     x
 }
@@ -55,7 +35,7 @@ pub fn get_le(b: &[u8], at: usize, n: usize) -> u64
     ensures value { result ≡ number_at at n b.now }
     ensures upper_bound { result < 256 ^ n }
 {
-    let bytes = part(b, at, at_most_8(n));
+    let bytes = part(b, at, n.min(8));
     read_le(bytes, 0, bytes.len())
 }
 
@@ -63,7 +43,7 @@ pub fn get_le(b: &[u8], at: usize, n: usize) -> u64
 pub fn byte_at(b: &[u8], at: usize) -> u8
     ensures { result ≡ get_or b.now at 0 }
 {
-    if at < b.len() { b[at] } else { 0 }
+    b.get(at).copied().unwrap_or(0)
 }
 
 // Writes the n lowest bytes of x from index at on.
@@ -71,13 +51,9 @@ pub fn put_le(buf: &mut [u8], at: usize, n: usize, x: u64)
     requires { at + n ≤ length buf.old }
     ensures { buf.new ≡ sets buf.old at (le_bytes n x) }
 {
-    let mut i = at;
-    let mut left = n;
     let mut rest = x;
-    while 0 < left {
-        buf[i] = (rest % 256) as u8;
-        rest = rest / 256;
-        i += 1;
-        left -= 1;
+    for byte in &mut buf[at..at + n] {
+        *byte = (rest % 256) as u8;
+        rest /= 256;
     }
 }

@@ -13,7 +13,8 @@ use layout::SecondParts;
 use reaction::{Deliveries, Reaction};
 
 // Where a sequence stands: at its beginning, or at its active pauses, by their ranks.
-#[derive(Clone, Copy)]
+// An enum of its own and no Option: `None` would not say that the sequence begins.
+#[derive(Clone, Copy, Debug, PartialEq, Eq)]
 pub enum Start {
     Fresh,
     Waiting(Labels),
@@ -89,10 +90,8 @@ pub fn instant(
     ensures { Instant second.now s.now origin input read_back result litres.new }
 {
     let r = react(s, origin, input, read_back, litres, second);
-    let k = r.completion;
-    if reaction::is_wrong(k) {
+    if reaction::is_wrong(r.completion) {
         *litres = [0; limits::FARMS];
-        return r;
     }
     r
 }

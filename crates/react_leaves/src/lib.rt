@@ -1,8 +1,7 @@
-// Commands without parts where a statement reacts: nothing and pause, which a traversal answers at once, the value of an emission
-// from its bytes (02, item 12), and the reaction of each.
+// Commands without parts where a statement reacts: the value of an emission from its bytes (02, item 12), and the reaction of each.
 #![tactic(auto)]
 
-ghost use Rattle.std.specs.Prelude.{◌≡◌, ℕ, ◌<◌, get_or, length, List, eqb};
+ghost use Rattle.std.specs.Prelude.{◌≡◌, ℕ, ◌<◌, get_or, List};
 ghost use Rattle.spec_base.specs.Limits.{signal_count};
 ghost use Rattle.spec_base.specs.Sets.{none};
 ghost use Rattle.spec_base.specs.Widths.{only_below};
@@ -10,13 +9,14 @@ ghost use Rattle.spec_language.specs.Statement.{nothing};
 ghost use Rattle.spec_language.specs.Reaction.{ended, gives};
 ghost use Rattle.spec_language.specs.Litres.{brought};
 ghost use Rattle.reaction.specs.Reactions.{alone, AccumulatesAt, Realizes};
-ghost use Rattle.react_leaves.specs.Emissions.{Emission, Whole, value_in, meant, amount_of};
+ghost use Rattle.react_leaves.specs.Emissions.{Emission, Whole, value_in, meant};
 ghost use Rattle.react_leaves.specs.Started.{Started, Leaf};
 
 use reaction::{Deliveries, Reaction};
 
 // What an emission carries: 02 nothing, 0C litres.
-#[derive(Clone, Copy)]
+// An enum of its own and no Option, since 01 names this form (02, item 12).
+#[derive(Clone, Copy, Debug, PartialEq)]
 pub enum Value {
     Pure,
     Litres(f32),
@@ -34,17 +34,6 @@ fn carried(s: &[u8]) -> Value
     }
 }
 
-// The litres of a value.
-fn amount(v: Value) -> u32
-    requires { Whole v }
-    ensures { result ≡ amount_of v }
-{
-    match v {
-        Value::Pure => 0,
-        Value::Litres(x) => x as u32,
-    }
-}
-
 // What the emission at the front of s, whose signal is x, delivers is added to the litres of its farm.
 fn deliver(s: &[u8], litres: &mut Deliveries, x: u8)
     requires emission { Emission s.now }
@@ -52,8 +41,8 @@ fn deliver(s: &[u8], litres: &mut Deliveries, x: u8)
     ensures { (f : ℕ) (o : ℕ) → AccumulatesAt f litres.old litres.new
         (alone (gives o ended none nothing) none (brought f x (meant (value_in s.now)))) }
 {
-    if s[0] == limits::DELIVER {
-        reaction::add(litres, x, amount(carried(s)));
+    if let Value::Litres(more) = carried(s) {
+        reaction::add(litres, x, more as u32);
     }
 }
 
@@ -69,29 +58,12 @@ fn emitting(s: &[u8], litres: &mut Deliveries) -> Reaction
     reaction::ending(signals::single(x))
 }
 
-// Whether a nothing stands at index n of s.
-pub fn is_nothing(s: &[u8], n: usize) -> bool
-    requires { n < length s.now }
-    ensures { result ≡ eqb (get_or s.now n 0) 0 }
-{
-    s[n] == limits::NOTHING
-}
-
-// Whether a pause stands at index n of s.
-pub fn is_pause(s: &[u8], n: usize) -> bool
-    requires { n < length s.now }
-    ensures { result ≡ eqb (get_or s.now n 0) 1 }
-{
-    s[n] == limits::PAUSE
-}
-
 // The reaction of the command at the front of s, which has no parts.
 pub fn alone(s: &[u8], litres: &mut Deliveries) -> Reaction
     requires { Leaf s.now }
     ensures { (t : List ℕ) (d a e : ℕ) → Started t d a s.now e litres.old litres.new result }
 {
-    let command = s[0];
-    match command {
+    match s[0] {
         limits::NOTHING => reaction::nothing(),
         limits::PAUSE => reaction::pausing(s[1]),
         limits::EMIT => emitting(s, litres),

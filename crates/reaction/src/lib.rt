@@ -16,7 +16,7 @@ use labels::Labels;
 
 // The code: ended, waiting, leaving n enclosing try blocks, or wrong with kind and place of the first error. An instant is
 // wrong exactly if its tree of reactions has an error, so no error stands beside another code.
-#[derive(Clone, Copy)]
+#[derive(Clone, Copy, Debug, PartialEq, Eq)]
 pub enum Completion {
     Ended,
     Waiting,
@@ -27,44 +27,26 @@ pub enum Completion {
 pub fn is_ended(k: Completion) -> bool
     ensures { result ≡ is_ended k }
 {
-    match k {
-        Completion::Ended => true,
-        Completion::Waiting => false,
-        Completion::Leaving(_) => false,
-        Completion::Wrong(_, _) => false,
-    }
+    matches!(k, Completion::Ended)
 }
 
 pub fn is_wrong(k: Completion) -> bool
     ensures { result ≡ is_wrong (code_of k) }
 {
-    match k {
-        Completion::Ended => false,
-        Completion::Waiting => false,
-        Completion::Leaving(_) => false,
-        Completion::Wrong(_, _) => true,
-    }
+    matches!(k, Completion::Wrong(..))
 }
 
 // The greater of two codes; of two that are wrong the first, whose error is the first.
 pub fn greater_of(k: Completion, l: Completion) -> Completion
     ensures { result ≡ greater_of k l }
 {
-    match k {
-        Completion::Ended => l,
-        Completion::Wrong(_, _) => k,
-        Completion::Waiting => match l {
-            Completion::Ended => k,
-            Completion::Waiting => l,
-            Completion::Leaving(_) => l,
-            Completion::Wrong(_, _) => l,
-        },
-        Completion::Leaving(m) => match l {
-            Completion::Leaving(n) => { if m < n { l } else { k } }
-            Completion::Ended => k,
-            Completion::Waiting => k,
-            Completion::Wrong(_, _) => l,
-        },
+    match (k, l) {
+        (Completion::Wrong(..), _) => k,
+        (_, Completion::Wrong(..)) => l,
+        (Completion::Leaving(m), Completion::Leaving(n)) => Completion::Leaving(m.max(n)),
+        (Completion::Leaving(_), _) => k,
+        (Completion::Waiting, Completion::Ended) => k,
+        _ => l,
     }
 }
 
@@ -73,24 +55,15 @@ pub fn caught(k: Completion) -> Completion
     ensures { result ≡ caught k }
 {
     match k {
-        Completion::Ended => k,
-        Completion::Waiting => k,
-        Completion::Leaving(n) => {
-            if n == 1 {
-                return Completion::Ended;
-            }
-            if n == 0 {
-                return k;
-            }
-            Completion::Leaving(n - 1)
-        }
-        Completion::Wrong(_, _) => k,
+        Completion::Leaving(1) => Completion::Ended,
+        Completion::Leaving(n) => Completion::Leaving(n.saturating_sub(1)),
+        _ => k,
     }
 }
 
 // The greatest field first, so that no space is lost between two. `asked` are the signals whose status its tree asked for: where
 // a run of a signal's body did not ask for it, the other run is the same.
-#[derive(Clone, Copy)]
+#[derive(Clone, Copy, Debug, PartialEq, Eq)]
 pub struct Reaction {
     pub labels: Labels,
     pub emitted: u32,
@@ -121,12 +94,7 @@ pub fn over_one(n: u32) -> u32
 fn together(n: u32, m: u32) -> u32
     ensures { result ≡ capped_of (n + m) }
 {
-    let sum = n as u64 + m as u64;
-    if sum < limits::LITRES_OVER {
-        sum as u32
-    } else {
-        limits::LITRES_OVER as u32
-    }
+    (n as u64 + m as u64).min(limits::LITRES_OVER) as u32
 }
 
 // The farm x is delivered some litres more.
@@ -241,12 +209,10 @@ pub fn failing(kind: u8, place: u16, reactions: u32, asked: u32) -> Reaction
 pub fn around(p: Reaction, asked: u32) -> Reaction
     ensures { FromOne (counted_around asked) p result }
 {
-    let labels = p.labels;
-    let k = p.completion;
     made(
         p.emitted,
-        labels,
-        k,
+        p.labels,
+        p.completion,
         over_one(p.reactions),
         signals::union(p.asked, asked),
     )

@@ -1,23 +1,26 @@
 // The reader (01, 'Commands' and rows 3 to 6): one traversal, into every part of a command. It answers one number: the row that
-// turns it down, or the offset behind the statement. Offsets are those of the whole sequence.
-ghost use Rattle.std.specs.Prelude.{◌≡◌, ℕ, ◌+◌, ◌≤◌, ◌<◌, List, length};
+// turns it down, or the offset behind the statement; a Result would be handed back through memory at each level. Offsets are those of
+// the whole sequence.
+ghost use Rattle.std.specs.Prelude.{◌≡◌, ℕ, ◌+◌, ◌*◌, ◌≤◌, ◌<◌, List, length};
 ghost use Rattle.spec_base.specs.Limits.{max_bytes};
 ghost use Rattle.spec_sequence.specs.Commands.{Command, partCount, head_length};
 ghost use Rattle.spec_sequence.specs.Reader.{read};
 ghost use Rattle.layout.specs.Notes.{no_notes};
-ghost use Rattle.layout.specs.Walk.{pair_read, Readable, Done};
+ghost use Rattle.layout.specs.Walk.{pair_read, Readable, Done, Packed, row_unit};
+ghost use Rattle.limits.specs.Rows.{row_number};
 ghost use Rattle.reading.specs.Reading.{Reads};
 
 use crate::leaves::{ahead, leaf};
-use crate::steps::{CROWDED, declare, declares, is_choice, is_deep, mark};
+use crate::steps::{declare, declares, is_choice, is_deep, mark};
 use layout::SecondParts;
+use limits::rows::Refusal;
 use notes::Notes;
 
-// A statement: the count of its bytes and how many more signals may stand around it, or the row that turns it down.
-#[derive(Clone, Copy)]
-pub enum Reading {
-    Accepted(usize, u8),
-    Refused(u8),
+// Of a statement that was read: its bytes, and how many more signals may stand around it.
+#[derive(Clone, Copy, Debug, PartialEq, Eq)]
+pub struct Reading {
+    pub bytes: usize,
+    pub left: u8,
 }
 
 // The first of two parts, at the front of s: one without parts of its own is read here, without recursion.
@@ -34,8 +37,7 @@ fn first(
     ensures { Done signals at second.old second.new notes.old notes.new
         (read depth signals at s.now) result }
 {
-    let m = ahead(s, at, depth, notes);
-    if m != 0 {
+    if let Some(m) = ahead(s, at, depth, notes) {
         return m;
     }
     read(&s[0..], at, depth, signals, second, notes)
@@ -106,17 +108,34 @@ fn read(
         return two(&s[2..], at, 2, depth - 1, signals, second, notes);
     }
     if declaring {
-        let left = declare(signals, notes);
-        if left == CROWDED {
+        let Some(left) = declare(signals, notes) else {
             return layout::DEPTH_ROW;
-        }
+        };
         return read(&s[2..], at + 2, depth - 1, left, second, notes);
     }
     read(&s[w..], at + w, depth - 1, signals, second, notes)
 }
 
+// The refusal that the traversal answers by its packed number.
+fn refusal_in(answer: usize) -> Refusal
+    requires { Packed answer }
+    ensures { row_number result * row_unit ≡ answer }
+{
+    match answer {
+        layout::COMMAND_ROW => Refusal::Command,
+        layout::MISSING_ROW => Refusal::Missing,
+        layout::OPERAND_ROW => Refusal::Operand,
+        layout::DEPTH_ROW => Refusal::Depth,
+        _ => Refusal::Litres,
+    }
+}
+
 // The statement at the front of a sequence, with the table of its second parts and the notes of its labels.
-pub fn read_sequence(s: &[u8], second: &mut SecondParts, notes: &mut Notes) -> Reading
+pub fn read_sequence(
+    s: &[u8],
+    second: &mut SecondParts,
+    notes: &mut Notes,
+) -> Result<Reading, Refusal>
     requires s_len_bound { length s.now ≤ max_bytes }
     requires second_len { length second.old ≡ max_bytes }
     requires notes_value { notes.old ≡ no_notes }
@@ -131,7 +150,10 @@ pub fn read_sequence(s: &[u8], second: &mut SecondParts, notes: &mut Notes) -> R
         notes,
     );
     if layout::ROW_UNIT <= m {
-        return Reading::Refused((m / layout::ROW_UNIT) as u8);
+        return Err(refusal_in(m));
     }
-    Reading::Accepted(m, limits::MAX_SIGNALS - notes::most(notes))
+    Ok(Reading {
+        bytes: m,
+        left: limits::MAX_SIGNALS - notes::most(notes),
+    })
 }

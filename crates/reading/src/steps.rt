@@ -9,17 +9,11 @@ ghost use Rattle.reading.specs.Steps.{isChoice, is_declaration, Declared};
 use layout::SecondParts;
 use notes::Notes;
 
-// What `declare` answers where no signal is left.
-pub const CROWDED: u8 = 255;
-
 // Whether x may be the operand of an exit.
 pub fn is_exit(x: u8) -> bool
     ensures { (xs : List ℕ) → result ≡ in_range Command.exit (x ∷ xs) }
 {
-    if x == 0 {
-        return false;
-    }
-    x <= limits::MAX_EXIT
+    (1..=limits::MAX_EXIT).contains(&x)
 }
 
 // Whether the command b has two parts behind an operand.
@@ -43,17 +37,14 @@ pub fn is_deep(depth: u8) -> bool
     depth == 0
 }
 
-// A signal command where so many are allowed: how many are allowed inside it, which is noted.
-pub fn declare(signals: u8, notes: &mut Notes) -> u8
+// A signal command where so many are allowed: how many are allowed inside it, which is noted; nothing where none is left.
+pub fn declare(signals: u8, notes: &mut Notes) -> Option<u8>
     requires { signals ≤ max_signals }
     ensures { Declared signals notes.old notes.new result }
 {
-    if signals == 0 {
-        return CROWDED;
-    }
-    let left = signals - 1;
+    let left = signals.checked_sub(1)?;
     notes::signal(left, notes);
-    left
+    Some(left)
 }
 
 // The second part, at offset m, of the command at offset `at`: where it begins, and the pauses noted so far at the byte before it.

@@ -13,11 +13,9 @@ ghost use Rattle.spec_tick.specs.Record.{number_in, input_in, answer_in, record_
 ghost use Rattle.spec_tick.specs.Recording.{following};
 
 use labels::Labels;
-use limits::{
-    LABEL_BYTES, LAST_NUMBER, NUMBER_BYTES, PLACE_BYTES, REACTIONS_BYTES, SIGNAL_BYTES, WORD_BYTES,
-};
+use limits::{LABEL_BYTES, NUMBER_BYTES, PLACE_BYTES, REACTIONS_BYTES, SIGNAL_BYTES, WORD_BYTES};
 
-// The phases of a state record (01, 'States and resuming').
+// The phases of a state record (01, 'States and resuming'). They stay bytes of the format: an enum would narrow what `write_state` takes.
 pub const FRESH: u8 = 0;
 
 pub const WAITING: u8 = 1;
@@ -61,7 +59,8 @@ fn put_labels(buffer: &mut [u8], at: usize, labels: Labels)
     numbers::put_le(buffer, high_at, WORD_BYTES, labels::high_word(labels));
 }
 
-// Writes a state record; a buffer of another length is left as it is.
+// Writes a state record; a buffer of another length is left as it is. The writers that begin with this test stay apart: what
+// they store differs, and a closure for it would be no plainer.
 pub fn write_state(state: &mut [u8], phase: u8, labels: Labels)
     ensures { state.new ≡ replaced state.old (state_record phase (label_set labels)) }
 {
@@ -72,7 +71,7 @@ pub fn write_state(state: &mut [u8], phase: u8, labels: Labels)
     put_labels(state, LABELS_AT, labels);
 }
 
-// The code of a wrong instant.
+// The code of a wrong instant: a byte of the format, as the other codes are.
 pub const WRONG: u8 = 255;
 
 // Where the fields of several bytes begin.
@@ -143,15 +142,11 @@ pub const PANEL_EMITTED_AT: usize = PANEL_INPUT_AT + SIGNAL_BYTES;
 
 pub const PANEL_LENGTH: usize = PANEL_EMITTED_AT + SIGNAL_BYTES;
 
-// The number of the next instant.
+// The number of the next instant. The greatest one is the greatest of its type.
 pub fn following(number: u32) -> u32
     ensures { result ≡ following number }
 {
-    if number < LAST_NUMBER {
-        number + 1
-    } else {
-        number
-    }
+    number.saturating_add(1)
 }
 
 fn number(record: &[u8]) -> u32

@@ -12,9 +12,7 @@ const ROOM: usize = 4194305;
 
 fn print_verdict(rt: &impl Print, file: &[u8]) -> io::Result<()> {
     let line = replay_lines::verdict(file);
-    let bytes = line.bytes;
-    let from = line.from;
-    rt.write_all(&bytes[from..])
+    rt.write_all(line.text())
 }
 
 fn main(rt: HostRuntime) -> io::Result<()> {

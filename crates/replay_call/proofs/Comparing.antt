@@ -16,7 +16,8 @@ use Rattle.numbers.proofs.Writing.{replaced-by}
 use Rattle.records.proofs.StateLaws.{state_sized}
 use Rattle.records.proofs.AnswerLaws.{answer_sized}
 use Rattle.spec_tick.specs.Tick.{outcome}
-use Rattle.instants.specs.declared.Standing.TheVariants as stands
+use Rattle.std.specs.Prelude.{Ok, Err}
+use Rattle.limits.specs.declared.rows.Refusal.TheVariants.{Over}
 use Rattle.program.specs.declared.Start.TheVariants as starts
 use Rattle.spec_tick.specs.Record.{recordLength, record_of}
 use Rattle.spec_tick.specs.Recording.{record_from}
@@ -35,17 +36,8 @@ record_made n e i k state answer w room made l m =
 
 -- ---- where the machine stands
 module _ (notes : List ℕ) {k : Completion} (L : ℕ) where
-  pub after-ended : k ≡ Ended → StandsAfter notes k L (stands.Refused 12)
-  after-ended e = subst (λ (x : Completion). StandsAfter notes x L (stands.Refused 12)) (sym e) refl
-
-  pub after-leaving : {n : ℕ} → k ≡ Leaving n → StandsAfter notes k L (stands.Refused 12)
-  after-leaving e = subst (λ (x : Completion). StandsAfter notes x L (stands.Refused 12)) (sym e) refl
-
-  pub after-wrong : {kind place : ℕ} → k ≡ Wrong kind place → StandsAfter notes k L (stands.Refused 12)
-  after-wrong e = subst (λ (x : Completion). StandsAfter notes x L (stands.Refused 12)) (sym e) refl
-
   pub has-ranks : k ≡ Waiting → RankedAfter notes k L → Ranked notes L
   has-ranks e h = subst (λ (x : Completion). RankedAfter notes x L) e h
 
-  pub after-waiting : k ≡ Waiting → (m : Labels) → Masked notes L (label_set m) → StandsAfter notes k L (stands.From (starts.Waiting m))
-  after-waiting e m h = subst (λ (x : Completion). StandsAfter notes x L (stands.From (starts.Waiting m))) (sym e) (m, refl, h)
+  pub after-waiting : k ≡ Waiting → (m : Labels) → Masked notes L (label_set m) → StandsAfter notes k L (Ok (starts.Waiting m))
+  after-waiting e m h = subst (λ (x : Completion). StandsAfter notes x L (Ok (starts.Waiting m))) (sym e) (m, refl, h)

@@ -26,17 +26,15 @@ use Rattle.records.proofs.StateLaws.{length_state}
 use Rattle.spec_tick.specs.Tick as tick
 use Rattle.spec_tick.specs.Tick.{Outcome, outcome, written, reply_of, replied, tick_by}
 use Rattle.spec_tick.specs.Demands.{number, state_afterwards}
-use Rattle.instants.specs.declared.Standing.TheVariants as stands
-use Rattle.instants.specs.declared.Standing.{Standing}
-use Rattle.instants.specs.declared.Reply.{Reply}
-use Rattle.instants.specs.declared.Reply.TheVariants.{Refused, Reacted}
+use Rattle.std.specs.Prelude.{Option, None, Some, Result, Ok, Err}
+use Rattle.std.specs.Result.{result_ok}
+use Rattle.limits.specs.declared.rows.Refusal.{Refusal}
+use Rattle.limits.specs.Rows.{row_number}
 use Rattle.instants.specs.Replies.{Decodes, replied_from, Replies}
 use Rattle.instants.proofs.Replying.{replied_from_lem, decoded, refused-reply, started-reply, turned_not_0}
 use Rattle.spec_tick.specs.Record.{input_in}
 use Rattle.spec_tick.specs.Recording.{blank, tick_on, record_from}
 use Rattle.spec_replay.specs.Replay.{same}
-use Rattle.replay_call.specs.declared.Next.{Next}
-use Rattle.replay_call.specs.declared.Next.TheVariants.{Differs, Stands}
 use Rattle.replay_call.specs.Comparing.{RankedAfter, Compared}
 use Rattle.replay_call.specs.Following.{Holds, is_record, FollowsFrom}
 use Rattle.replay_call.proofs.Standing.{state_of, recorded_then, ranked-after, decodes-after}
@@ -50,22 +48,26 @@ written_number (Wrong kind place) o L m = refl
 written_state : (i : Instant) → state_afterwards (written i) ≡ encode_state (state_of i)
 written_state (Instants.instant r x n) = refl
 
+is-ok : (x : Result Start Refusal) {start : Start} → result_ok x ≡ Some start → x ≡ Ok start
+is-ok (Ok y) {start} e = let z : y ≡ start = cc in ap (λ (s : Start). Ok s) z
+is-ok (Err m) e = absurd cc
+
 -- ---- one record, from a state on
 module _ (sequence : List ℕ) (read_back : ℕ) {second notes : List ℕ} (h : Passed sequence read_back second notes) (s : State)
-    (standing : Standing) (k : Holds h.p s standing) where
+    (standing : Result Start Refusal) (k : Holds h.p s standing) where
   abbrev state : List ℕ
   state = encode_state s
 
   stood : Decodes h.p state standing
   stood = k.decodes
 
-  pub start-replies : (start : Start) → standing ≡ stands.From start → (e : ℕ) (i : Reaction)
-      → i ≡ reaction_of (start_traced 0 (program read_back (term_at start h.p)) e) → Replies sequence state e read_back (Reacted i)
+  pub start-replies : (start : Start) → result_ok standing ≡ Some start → (e : ℕ) (i : Reaction)
+      → i ≡ reaction_of (start_traced 0 (program read_back (term_at start h.p)) e) → Replies sequence state e read_back (Ok i)
   start-replies start q e i w =
-      started-reply sequence state e read_back h.p h.is h.ranged 0 i start (subst (Decodes h.p state) q stood) w
+      started-reply sequence state e read_back h.p h.is h.ranged 0 i start (subst (Decodes h.p state) (is-ok standing q) stood) w
 
   -- what the comparison asks of an instant
-  pub comparable : (e : ℕ) (i : Reaction) → Replies sequence state e read_back (Reacted i)
+  pub comparable : (e : ℕ) (i : Reaction) → Replies sequence state e read_back (Ok i)
       → Writable i × RankedAfter notes i.completion (label_set i.labels)
   comparable e i q =
       let j = q.is.0 in (
@@ -83,33 +85,37 @@ module _ (sequence : List ℕ) (read_back : ℕ) {second notes : List ℕ} (h : 
     replied-tick = rw (length_state s)
 
     -- what is written from the core's reply is the tick's
-    as-tick : (x : Reply) → Replies sequence state (input_in r) read_back x → replied_from x state blank ≡ o
+    as-tick : (x : Result Reaction Refusal) → Replies sequence state (input_in r) read_back x → replied_from x state blank ≡ o
     as-tick x q = replied_from_lem x (reply_of sequence state (input_in r) read_back) q.is state blank ∙ sym replied-tick
 
-    not-a-record : (m : ℕ) → m ≢ 0 → Replies sequence state (input_in r) read_back (Refused m) → is_record n r o ≡ false
+    not-a-record : (m : Refusal) → row_number m ≢ 0 → Replies sequence state (input_in r) read_back (Err m) → is_record n r o ≡ false
     not-a-record m z q =
-        ap (is_record n r) (sym (as-tick (Refused m) q))
-        ∙ ap (λ (b : Bool). b && same r (record_from n (input_in r) (outcome m state blank))) (ne_eqb m 0 z)
+        ap (is_record n r) (sym (as-tick (Err m) q))
+        ∙ ap (λ (b : Bool). b && same r (record_from n (input_in r) (outcome (row_number m) state blank))) (ne_eqb (row_number m) 0 z)
 
-    pub refused-differs : (m : ℕ) → standing ≡ stands.Refused m → FollowsFrom h.p sequence read_back n r s Differs
-    refused-differs m q =
-        let d = subst (Decodes h.p state) q stood in
-        not-a-record m (turned_not_0 h.p (decode_state h.p state) 0 m (d h.p 0))
-        (refused-reply sequence state (input_in r) read_back m
-        (decoded sequence state read_back h (stands.Refused m) d (input_in r)))
+    -- a machine that is over
+    pub refused-differs : result_ok standing ≡ None → FollowsFrom h.p sequence read_back n r s None
+    refused-differs q = go standing q stood
+      where
+        go : (x : Result Start Refusal) → result_ok x ≡ None → Decodes h.p state x → is_record n r o ≡ false
+        go (Ok start) e d = absurd cc
+        go (Err m) e d =
+            not-a-record m (turned_not_0 h.p (decode_state h.p state) 0 (row_number m) (d h.p 0))
+            (refused-reply sequence state (input_in r) read_back m
+            (decoded sequence state read_back h (Err m) d (input_in r)))
 
     -- an instant's record is the tick's
-    is-record : (i : Reaction) → Replies sequence state (input_in r) read_back (Reacted i)
+    is-record : (i : Reaction) → Replies sequence state (input_in r) read_back (Ok i)
         → is_record n r o ≡ same r (record_from n (input_in r) (writtenFrom i))
     is-record i q =
-        ap (is_record n r) (sym (as-tick (Reacted i) q))
+        ap (is_record n r) (sym (as-tick (Ok i) q))
         ∙ ap (λ (m : ℕ). eqb m 0 && same r (record_from n (input_in r) (writtenFrom i)))
         (written_number i.completion i.emitted (label_set i.labels) i.reactions)
 
-    by-comparison : (i : Reaction) → Replies sequence state (input_in r) read_back (Reacted i) → (x : Next)
+    by-comparison : (i : Reaction) → Replies sequence state (input_in r) read_back (Ok i) → (x : Option (Result Start Refusal))
         → Compared notes n (input_in r) r i x → FollowsFrom h.p sequence read_back n r s x
-    by-comparison i q Differs c = is-record i q ∙ c
-    by-comparison i q (Stands there) c =
+    by-comparison i q None c = is-record i q ∙ c
+    by-comparison i q (Some there) c =
         let j = q.is.0 in
         let next = recorded_then sequence read_back h s k.recorded (input_in r) (instant_of j) q.is.2 in (
           is-record i q ∙ c.0,
@@ -120,7 +126,7 @@ module _ (sequence : List ℕ) (read_back : ℕ) {second notes : List ℕ} (h : 
           ),
         )
 
-    pub compared-follows : (e : ℕ) → e ≡ input_in r → (i : Reaction) → Replies sequence state e read_back (Reacted i) → (x : Next)
+    pub compared-follows : (e : ℕ) → e ≡ input_in r → (i : Reaction) → Replies sequence state e read_back (Ok i) → (x : Option (Result Start Refusal))
         → Compared notes n e r i x → FollowsFrom h.p sequence read_back n r s x
     compared-follows e w i q x c =
-        by-comparison i (subst (λ (y : ℕ). Replies sequence state y read_back (Reacted i)) w q) x (subst (λ (y : ℕ). Compared notes n y r i x) w c)
+        by-comparison i (subst (λ (y : ℕ). Replies sequence state y read_back (Ok i)) w q) x (subst (λ (y : ℕ). Compared notes n y r i x) w c)

@@ -41,8 +41,10 @@ use Rattle.records.proofs.StateLaws.{decode_encode}
 use Rattle.spec_tick.specs.Tick.{reacts, byState, by_check, reply_of}
 use Rattle.theory_tick.proofs.Bounds.{valid-below}
 use Rattle.theory_tick.proofs.Sequence.{Accepted, accepted, recorded-fresh, recorded-resumed}
-use Rattle.instants.specs.declared.Standing.{Standing}
-use Rattle.instants.specs.declared.Standing.TheVariants as stands
+use Rattle.std.specs.Prelude.{Result, Ok, Err}
+use Rattle.program.specs.declared.Start.{Start}
+use Rattle.limits.specs.declared.rows.Refusal.{Refusal}
+use Rattle.limits.specs.declared.rows.Refusal.TheVariants.{Over}
 use Rattle.program.specs.declared.Start.TheVariants as starts
 use Rattle.instants.specs.Replies.{Decodes}
 use Rattle.replay_call.specs.Comparing.{RankedAfter, StandsAfter}
@@ -114,16 +116,16 @@ module _ (p : Statement) (ranged : Ranged p) {t notes bs : List ℕ} (k : Known 
       go (traced (Instants.instant (gives o wrong l u) x n) a y) r = tt
 
   pub decodes-after : (j : Traced) (i : Reaction) → i ≡ reaction_of j → Recorded p (state_of (instant_of j))
-      → (s : Standing) → StandsAfter notes i.completion (label_set i.labels) s → Decodes p (encode_state (state_of (instant_of j))) s
+      → (s : Result Start Refusal) → StandsAfter notes i.completion (label_set i.labels) s → Decodes p (encode_state (state_of (instant_of j))) s
   decodes-after j i q r s h =
       go j r (subst (λ (x : Reaction). StandsAfter notes x.completion (label_set x.labels) s) q h)
     where
-      over : (s : Standing) → s ≡ stands.Refused 12 → Decodes p (encode_state State.over) s
+      over : (s : Result Start Refusal) → s ≡ Err Over → Decodes p (encode_state State.over) s
       over s e =
           subst (Decodes p (encode_state State.over)) (sym e)
           (λ q e. ap (λ (d : Decoded). byState inheritanceFirst q d e) (decode_encode p State.over tt))
 
-      waits : (l : ℕ) → Recorded p (State.waits l) → (m : Labels) → Masked notes l (label_set m) → Decodes p (encode_state (State.waits l)) (stands.From (starts.Waiting m))
+      waits : (l : ℕ) → Recorded p (State.waits l) → (m : Labels) → Masked notes l (label_set m) → Decodes p (encode_state (State.waits l)) (Ok (starts.Waiting m))
       waits l r m w =
           let e = labels_recorded p l r in (
             decode_encode p (State.waits l) r ∙ ap (λ (x : ℕ). holds (State.waits x)) (sym e),

@@ -4,6 +4,7 @@
 ghost use Rattle.lines.specs.Shown.{Displays};
 ghost use Rattle.spec_programs.specs.Verdict.{verdict_of};
 
+use limits::rows::row_number;
 use lines::Line;
 use records::RECORD_LENGTH;
 
@@ -15,22 +16,14 @@ pub fn verdict(file: &[u8]) -> Line
     ensures { Displays result (verdict_of file.now) }
 {
     let n = file.len();
-    if MAX_FILE < n {
-        return lines::cut();
-    }
     let at = files::inputs_begin(file);
-    if n < at {
+    if MAX_FILE < n || n < at {
         return lines::cut();
     }
-    let recording = numbers::part(file, at, n - at);
-    let read_back = files::read_back(file);
-    let mut place: usize = 0;
-    let number = replay_call::replay(files::sequence(file), read_back, recording, &mut place);
-    if number != 0 {
-        return lines::refusal(number);
+    let recording = &file[at..];
+    match replay_call::replay(files::sequence(file), files::read_back(file), recording) {
+        Err(refusal) => lines::refusal(row_number(refusal)),
+        Ok(0) => lines::numbered(b"accepted ", (recording.len() / RECORD_LENGTH) as u64),
+        Ok(place) => lines::numbered(b"differs at ", place as u64),
     }
-    if place == 0 {
-        return lines::numbered(b"accepted ", ((n - at) / RECORD_LENGTH) as u64);
-    }
-    lines::numbered(b"differs at ", place as u64)
 }

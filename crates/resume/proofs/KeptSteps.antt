@@ -1,16 +1,16 @@
 -- The labels of the active pauses at a command of each shape, from what the code finds of its parts.
-use Prim.Native.Nat.{ℕ, ◌+◌, ◌-◌, ◌/◌, ◌%◌, ◌^◌, ◌<◌}
+use Prim.Native.Nat.{ℕ, ◌+◌, ◌-◌, ◌<◌}
 use mathlib.Core.Path.{◌≡◌, refl, sym, ap, ap₂, ◌∙◌, subst}
-use mathlib.Core.Bool.{Bool, true, false}
+use mathlib.Core.Bool.{true, false}
 use mathlib.Core.List.{List}
-use native.Mathlib.Omega.{arith}
-use lib.ListN.{length-set, get_or, set, replicate}
+use lib.ListN.{get_or}
 use borrow.Author.Tests.{eqb-true, lt-ltb}
-use Rattle.spec_base.specs.Limits.{word_labels, label_count}
+use Rattle.spec_base.specs.Limits.{label_count}
 use Rattle.spec_base.specs.Sets.{none, empty, join, below, from}
-use Rattle.spec_base.specs.Widths.{only_below, two_words, set_at}
+use Rattle.spec_base.specs.Widths.{only_below}
 use Rattle.sets.proofs.Algebra.{join-none_l, join-none_r, join_assoc}
-use Rattle.sets.proofs.Words.{words_of, words-none, stored_here}
+use Rattle.labels.specs.declared.Labels.{Labels}
+use Rattle.labels.specs.Labels.{label_set}
 use Rattle.spec_language.specs.Statement.{Statement, nothing, pause}
 use Rattle.theory_language.specs.Ranks.{middle, labels_by}
 use Rattle.theory_language.proofs.Ranks.{labels_by_none}
@@ -20,51 +20,30 @@ use Rattle.layout.specs.Layout.{rest, Two, Lies, Ready}
 use Rattle.commands.proofs.Shapes.{Shaped, leaf_apart, one_apart, two-apart}
 use Rattle.resume.specs.Labelled.{Joined}
 
--- ---- a mask m, the set a that the code makes of its words, and the words of a part of it
-pub tested : {a m : ℕ} {r x : Bool} → a ≡ m → r ≡ empty a → r ≡ x → empty m ≡ x
-tested e h k = ap empty (sym e) ∙ sym h ∙ k
-
-pub words-mask : {f low high : ℕ} → low ≡ f % 2 ^ word_labels → high ≡ f / 2 ^ word_labels → two_words word_labels low high ≡ f
-words-mask {f} l h = ap₂ (two_words word_labels) l h ∙ words_of word_labels f
-
-pub part_mask : (g : ℕ → ℕ) {a m f low high : ℕ} → a ≡ m → f ≡ g a → low ≡ f % 2 ^ word_labels → high ≡ f / 2 ^ word_labels
-    → two_words word_labels low high ≡ g m
-part_mask g e k l h = words-mask l h ∙ k ∙ ap g e
-
--- ---- labels added to those in an array of two words
-same_labels : {s t : ℕ} {u v : List ℕ} → s ≡ t → Joined s u v → Joined t u v
+-- ---- labels added to those found
+same_labels : {s t : ℕ} {u v : Labels} → s ≡ t → Joined s u v → Joined t u v
 same_labels {u = u} {v = v} e a = subst (λ (x : ℕ). Joined x u v) e a
 
-none-added : (u : List ℕ) → Joined none u u
-none-added u = record { adds = λ l. (l, sym (join-none_r (set_at 0 u))) }
+none-added : (u : Labels) → Joined none u u
+none-added u = record { adds = sym (join-none_r (label_set u)) }
 
-both_added : {s t : ℕ} {u v w : List ℕ} → Joined s u v → Joined t v w → Joined (join s t) u w
-both_added {s} {t} {u} a b =
-    record {
-      adds = λ l. let x = a.adds l in
-          let y = b.adds x.0 in
-          (y.0, y.1 ∙ ap (λ (z : ℕ). join z t) x.1 ∙ sym (join_assoc (set_at 0 u) s t));
-    }
-
--- the words of a set stored, which has the labels there and those of s
-pub words_stored : (u : List ℕ) {a b f s : ℕ} → a ≡ f % 2 ^ word_labels → b ≡ f / 2 ^ word_labels → f ≡ join (set_at 0 u) s
-    → Joined s u (set (set u 0 a) 1 b)
-words_stored u {f = f} l h e = rw (l, h) (record { adds = λ n. (simp length-set n, stored_here 0 f u (omega arith) ∙ e) })
+both_added : {s t : ℕ} {u v w : Labels} → Joined s u v → Joined t v w → Joined (join s t) u w
+both_added {s} {t} {u} a b = record { adds = b.adds ∙ ap (λ (z : ℕ). join z t) a.adds ∙ sym (join_assoc (label_set u) s t) }
 
 -- labels added to none
-pub from_none : {s : ℕ} {v : List ℕ} → Joined s (replicate 2 0) v → set_at 0 v ≡ s
-from_none {s} a = (a.adds refl).1 ∙ ap (λ (x : ℕ). join x s) (words-none word_labels) ∙ join-none_l s
+pub from_none : {s : ℕ} {u v : Labels} → label_set u ≡ none → Joined s u v → label_set v ≡ s
+from_none {s} e a = a.adds ∙ ap (λ (x : ℕ). join x s) e ∙ join-none_l s
 
 -- ---- any command
 -- what is said of a command is said of the statement that it is
-pub here : (t p : Statement) (base m : ℕ) {u v : List ℕ} → p ≡ t → Joined (labels_by base t m) u v → Joined (labels_by base p m) u v
+pub here : (t p : Statement) (base m : ℕ) {u v : Labels} → p ≡ t → Joined (labels_by base t m) u v → Joined (labels_by base p m) u v
 here t p base m h k = same_labels (ap (λ (z : Statement). labels_by base z m) (sym h)) k
 
 -- a statement whose mask is empty is not entered
-pub empty_step : (base m : ℕ) (p : Statement) {u : List ℕ} → empty m ≡ true → Joined (labels_by base p m) u u
+pub empty_step : (base m : ℕ) (p : Statement) {u : Labels} → empty m ≡ true → Joined (labels_by base p m) u u
 empty_step base m p {u} e = same_labels (sym (ap (labels_by base p) (eqb-true m none e) ∙ labels_by_none base p)) (none-added u)
 
-pub pause_step : (base m l : ℕ) {u v : List ℕ} → l < label_count → empty m ≡ false → Joined (only_below label_count l) u v
+pub pause_step : (base m l : ℕ) {u v : Labels} → l < label_count → empty m ≡ false → Joined (only_below label_count l) u v
     → Joined (labels_by base (pause l) m) u v
 unfolding labels_by
 pause_step base m l s e h = rw e (rw (lt-ltb l label_count s) at h)
@@ -74,7 +53,7 @@ abbrev of_two : (base m : ℕ) (p q : Statement) → ℕ
 of_two base m p q = join (labels_by base p (below (middle base p) m)) (labels_by (middle base p) q (from (middle base p) m))
 
 -- f and g are the masks of the parts of a command of two; k is the table's number of pauses before the second part
-pub parts_step : (base m : ℕ) (p q : Statement) (k : ℕ) {f g : ℕ} {u v w : List ℕ} → k ≡ middle base p → f ≡ below k m → g ≡ from k m
+pub parts_step : (base m : ℕ) (p q : Statement) (k : ℕ) {f g : ℕ} {u v w : Labels} → k ≡ middle base p → f ≡ below k m → g ≡ from k m
     → Joined (labels_by base p f) u v → Joined (labels_by (middle base p) q g) v w → Joined (of_two base m p q) u w
 parts_step base m p q k hk hf hg hv hw =
     let x = ap (labels_by base p) (hf ∙ ap (λ (i : ℕ). below i m) hk) in
@@ -102,12 +81,12 @@ module _ (base m a : ℕ) (xs : List ℕ) where
 
 -- ---- the statement p that lies at the front of the bytes
 module _ {t : List ℕ} {d a : ℕ} {bs : List ℕ} (r : Ready t d a bs) {w : ℕ} (base m : ℕ) (p : Statement) (l : Lies t d base a bs p) where
-  pub leaf_step : Shaped bs 0 w → (get_or bs 0 0 ≡ 1 → ⊥) → {u : List ℕ} → Joined (labels_by base p m) u u
+  pub leaf_step : Shaped bs 0 w → (get_or bs 0 0 ≡ 1 → ⊥) → {u : Labels} → Joined (labels_by base p m) u u
   leaf_step y n {u} =
       let e : byte_of y.c ≡ 1 → ⊥ = λ h. n (y.byte ∙ h) in
       rw (leaf_apart r y base p l, leaf-labels base m a (operands_of y.c bs) y.c y.parts e) (none-added u)
 
-  module _ {u v : List ℕ} where
+  module _ {u v : Labels} where
     pub one-step : Shaped bs 1 w → ((q : Statement) → Lies t (d - 1) base (a + w) (rest w bs) q → Joined (labels_by base q m) u v)
         → Joined (labels_by base p m) u v
     one-step y f =

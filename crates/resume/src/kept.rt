@@ -11,34 +11,21 @@ use commands::Shape;
 use labels::Labels;
 use layout::SecondParts;
 
-// The two words of a set of labels.
-type Words = [u64; 2];
-
 // A pause with label l is active.
-fn add(l: u8, found: &mut Words)
+fn add(l: u8, found: &mut Labels)
     ensures { Joined (only_below label_count l) found.old found.new }
 {
-    let labels = labels::union(labels::from_words(found[0], found[1]), labels::single(l));
-    found[0] = labels::low_word(labels);
-    found[1] = labels::high_word(labels);
+    *found = labels::union(*found, labels::single(l));
 }
 
-// Joined the labels of the statement at the front of s, which stands at the offset `at`. The words of the mask are passed in
-// registers, and those of the result are kept in one place.
+// Joined the labels of the statement at the front of s, which stands at the offset `at`. The mask is passed in registers, and the
+// result is kept in one place.
 #[cycle(inside_part_parts)]
-fn inside(
-    s: &[u8],
-    at: usize,
-    depth: u8,
-    low: u64,
-    high: u64,
-    second: &SecondParts,
-    found: &mut Words,
-)
+fn inside(s: &[u8], at: usize, depth: u8, active: Labels, second: &SecondParts, found: &mut Labels)
     requires { Ready second.now depth at s.now }
-    ensures { Found second.now depth at s.now low high found.old found.new }
+    ensures { Found second.now depth at s.now (label_set active) found.old found.new }
 {
-    if labels::is_empty(labels::from_words(low, high)) {
+    if labels::is_empty(active) {
         return;
     }
     let command = s[0];
@@ -48,8 +35,8 @@ fn inside(
                 add(s[1], found);
             }
         }
-        Shape::One(w) => part(s, w, at + w, depth - 1, low, high, second, found),
-        Shape::Two(w) => parts(s, at, w, depth, low, high, second, found),
+        Shape::One(w) => part(s, w, at + w, depth - 1, active, second, found),
+        Shape::Two(w) => parts(s, at, w, depth, active, second, found),
     }
 }
 
@@ -60,16 +47,15 @@ fn part(
     n: usize,
     at: usize,
     depth: u8,
-    low: u64,
-    high: u64,
+    active: Labels,
     second: &SecondParts,
-    found: &mut Words,
+    found: &mut Labels,
 )
     requires n_in_bounds { n ≤ length s.now }
     requires ready { Ready second.now depth at (rest n s.now) }
-    ensures { Found second.now depth at (rest n s.now) low high found.old found.new }
+    ensures { Found second.now depth at (rest n s.now) (label_set active) found.old found.new }
 {
-    inside(&s[n..], at, depth, low, high, second, found);
+    inside(&s[n..], at, depth, active, second, found);
 }
 
 // The same of the two parts of the command of w bytes at the front of s, which stands at the offset `at`.
@@ -79,42 +65,27 @@ fn parts(
     at: usize,
     w: usize,
     depth: u8,
-    low: u64,
-    high: u64,
+    active: Labels,
     second: &SecondParts,
-    found: &mut Words,
+    found: &mut Labels,
 )
     requires { Pair second.now (depth - 1) at w s.now }
-    ensures { FoundTwo second.now (depth - 1) at w s.now low high found.old found.new }
+    ensures { FoundTwo second.now (depth - 1) at w s.now (label_set active) found.old found.new }
 {
     let m = second[at] as usize;
     let pauses = second[m - 1];
     let n = m - at;
-    let active = labels::from_words(low, high);
     let first = labels::below(active, pauses);
     let others = labels::from(active, pauses);
-    let low_others = labels::low_word(others);
-    let high_others = labels::high_word(others);
     if labels::is_empty(first) {
-        part(s, n, m, depth - 1, low_others, high_others, second, found);
+        part(s, n, m, depth - 1, others, second, found);
         return;
     }
-    let low_first = labels::low_word(first);
-    let high_first = labels::high_word(first);
-    part(
-        s,
-        w,
-        at + w,
-        depth - 1,
-        low_first,
-        high_first,
-        second,
-        found,
-    );
+    part(s, w, at + w, depth - 1, first, second, found);
     if labels::is_empty(others) {
         return;
     }
-    part(s, n, m, depth - 1, low_others, high_others, second, found);
+    part(s, n, m, depth - 1, others, second, found);
 }
 
 // The labels of the part from s[n] on, which stands at the offset `at`.
@@ -130,16 +101,7 @@ pub fn of_part(
     requires ready { Ready second.now depth at (rest n s.now) }
     ensures { Labelled second.now depth at (rest n s.now) (label_set active) result }
 {
-    let mut found: Words = [0; 2];
-    part(
-        s,
-        n,
-        at,
-        depth,
-        labels::low_word(active),
-        labels::high_word(active),
-        second,
-        &mut found,
-    );
-    labels::from_words(found[0], found[1])
+    let mut found = labels::empty();
+    part(s, n, at, depth, active, second, &mut found);
+    found
 }

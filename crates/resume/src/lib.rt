@@ -15,6 +15,7 @@ use reaction::{Deliveries, Reaction};
 
 // The reaction of the statement at the front of s, which stands at the offset `at`, by the ranks of its active pauses. What it
 // delivers is added to `litres`.
+// The arguments stay apart: a struct of more than two words goes through memory at each level (docs/decisions/instant.md).
 #[cycle(body_declaration_par_parts_part_present_parts_resume_seq_parts_side_signal_rule_suspend_part)]
 pub fn resume(
     s: &[u8],
@@ -64,7 +65,7 @@ fn part(
     ensures { Resumed second.now depth at (rest n s.now) (label_set active) input
         litres.old litres.new result }
 {
-    if react_leaves::is_pause(s, n) {
+    if s[n] == limits::PAUSE {
         return reaction::nothing();
     }
     resume(&s[n..], at, depth, input, litres, active, second)
@@ -113,10 +114,7 @@ fn side(
     ensures { ResumedSide second.now depth at (rest n s.now) (label_set active) input
         litres.old litres.new result }
 {
-    if labels::is_empty(active) {
-        return reaction::nothing();
-    }
-    if react_leaves::is_pause(s, n) {
+    if labels::is_empty(active) || s[n] == limits::PAUSE {
         return reaction::nothing();
     }
     resume(&s[n..], at, depth, input, litres, active, second)
@@ -171,6 +169,8 @@ fn present_parts(
 }
 
 // A declaration, as in `react`.
+// Twins of `react` stay: a rule that both shared by a closure would not call itself, which is what keeps its frame apart
+// (docs/decisions/instant.md).
 #[cycle(body_declaration_par_parts_part_present_parts_resume_seq_parts_side_signal_rule_suspend_part)]
 fn declaration(
     s: &[u8],
@@ -265,9 +265,8 @@ fn suspend_part(
         let labels = crate::kept::of_part(s, 2, at + 2, depth - 1, active, second);
         rules::stopped(x, labels)
     } else {
-        let absent = signals::single(x);
         rules::in_held(
-            absent,
+            signals::single(x),
             part(s, 2, at + 2, depth - 1, input, litres, active, second),
         )
     }

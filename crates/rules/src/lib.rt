@@ -21,8 +21,7 @@ use reaction::{Completion, Reaction};
 pub fn in_loop(place: u16, p: Reaction) -> Reaction
     ensures { (u : Statement) → FromOne (loop_traced place u) p result }
 {
-    let k = p.completion;
-    if reaction::is_ended(k) {
+    if reaction::is_ended(p.completion) {
         reaction::failing(
             kinds::INSTANTANEOUS,
             place,
@@ -38,22 +37,17 @@ pub fn in_loop(place: u16, p: Reaction) -> Reaction
 pub fn in_present(s: u8, p: Reaction) -> Reaction
     ensures { s < signal_count → FromOne (present_traced s) p result }
 {
-    let tested = signals::single(s);
-    reaction::around(p, tested)
+    reaction::around(p, signals::single(s))
 }
 
 // try p
 pub fn in_try(p: Reaction) -> Reaction
     ensures { FromOne try_traced p result }
 {
-    let labels = p.labels;
-    let k = p.completion;
     Reaction {
-        emitted: p.emitted,
-        labels,
-        completion: reaction::caught(k),
+        completion: reaction::caught(p.completion),
         reactions: reaction::over_one(p.reactions),
-        asked: p.asked,
+        ..p
     }
 }
 
@@ -76,19 +70,17 @@ pub fn in_held(absent: u32, p: Reaction) -> Reaction
 pub fn stopped(s: u8, labels: Labels) -> Reaction
     ensures { s < signal_count → (u : Statement) → result ≡ reaction_of (stopped_traced s (label_set labels) u) }
 {
-    let present = signals::single(s);
-    reaction::waiting(labels, present)
+    reaction::waiting(labels, signals::single(s))
 }
 
 // Labels are kept only with code 1.
 fn if_waiting(k: Completion, labels: Labels) -> Labels
     ensures { label_set result ≡ if_waiting (code_of k) (label_set labels) }
 {
-    match k {
-        Completion::Waiting => labels,
-        Completion::Ended => labels::empty(),
-        Completion::Leaving(_) => labels::empty(),
-        Completion::Wrong(_, _) => labels::empty(),
+    if matches!(k, Completion::Waiting) {
+        labels
+    } else {
+        labels::empty()
     }
 }
 
@@ -96,16 +88,12 @@ fn if_waiting(k: Completion, labels: Labels) -> Labels
 pub fn in_sequence(p: Reaction, q: Reaction) -> Reaction
     ensures { (u : Statement) → FromTwo (seq_traced u) p q result }
 {
-    let k = p.completion;
-    if reaction::is_ended(k) {
-        let labels = q.labels;
-        let l = q.completion;
+    if reaction::is_ended(p.completion) {
         Reaction {
             emitted: signals::union(p.emitted, q.emitted),
-            labels,
-            completion: l,
             reactions: reaction::over_two(p.reactions, q.reactions),
             asked: signals::union(p.asked, q.asked),
+            ..q
         }
     } else {
         in_first(p)
@@ -124,9 +112,7 @@ pub fn in_first(p: Reaction) -> Reaction
 pub fn in_parallel(p: Reaction, q: Reaction) -> Reaction
     ensures { FromTwo par_traced p q result }
 {
-    let k = p.completion;
-    let l = q.completion;
-    let code = reaction::greater_of(k, l);
+    let code = reaction::greater_of(p.completion, q.completion);
     Reaction {
         emitted: signals::union(p.emitted, q.emitted),
         labels: if_waiting(code, labels::union(p.labels, q.labels)),

@@ -16,19 +16,17 @@ const TURNS: usize = 65539;
 // Writes the next piece, and answers the run after it.
 fn print_piece(rt: &impl Print, file: &[u8], run: Run) -> io::Result<Run> {
     let piece = listing::turn(file, run);
-    let line = piece.line;
-    let bytes = line.bytes;
-    let from = line.from;
-    rt.write_all(&bytes[from..])?;
+    rt.write_all(piece.line.text())?;
     Ok(piece.run)
 }
 
 fn print_listing(rt: &impl Print, file: &[u8]) -> io::Result<()> {
     let mut run = listing::start();
-    let mut turns = TURNS;
-    while turns > 0 && !listing::is_finished(run) {
+    for _ in 0..TURNS {
+        if listing::is_finished(run) {
+            break;
+        }
         run = print_piece(rt, file, run)?;
-        turns -= 1;
     }
     Ok(())
 }

@@ -10,11 +10,7 @@ ghost use Rattle.spec_base.specs.Widths.{only_below, insert_below, complement, L
 pub fn member(s: u32, i: u8) -> bool
     ensures { result ≡ member i s }
 {
-    if i < limits::SIGNALS {
-        (s >> i) % 2 == 1
-    } else {
-        false
-    }
+    i < limits::SIGNALS && (s >> i) % 2 == 1
 }
 
 pub fn single(i: u8) -> u32
@@ -38,7 +34,7 @@ pub fn with(s: u32, i: u8) -> u32
 pub fn without(s: u32, i: u8) -> u32
     ensures { result ≡ remove i s }
 {
-    s ^ (s & single(i))
+    s & !single(i)
 }
 
 pub fn is_empty(s: u32) -> bool
@@ -72,12 +68,12 @@ pub fn common(s: u32, t: u32) -> u32
 pub fn difference(s: u32, t: u32) -> u32
     ensures { result ≡ difference s t }
 {
-    s ^ (s & t)
+    s & !t
 }
 
 // The signals that s has not.
 pub fn complement(s: u32) -> u32
     ensures { result ≡ complement signal_count s }
 {
-    difference(0xFFFFFFFF, s)
+    !s
 }

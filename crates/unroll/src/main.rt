@@ -7,21 +7,19 @@
 use input::{read_full, zeros};
 use lines::Line;
 use std::io;
-use unroll_files::Answer;
 
 // One byte more than a file may have, so that a longer one is seen.
 const ROOM: usize = 65537;
 
 fn print_line(rt: &impl Print, line: Line) -> io::Result<()> {
-    let bytes = line.bytes;
-    let from = line.from;
-    rt.write_all(numbers::part(&bytes, from, lines::LINE_LENGTH))
+    rt.write_all(line.text())
 }
 
 // The length, the result and what stood behind the sequence.
 fn print_file(rt: &impl Print, file: &[u8], res: &[u8], count: usize) -> io::Result<()> {
     let length = unroll_files::length_bytes(count);
     rt.write_all(&length)?;
+    // What is promised of the result is its bytes and not a bound on `count`, and `part` asks for none.
     rt.write_all(numbers::part(res, 0, count))?;
     rt.write_all(files::behind_sequence(file))
 }
@@ -29,14 +27,13 @@ fn print_file(rt: &impl Print, file: &[u8], res: &[u8], count: usize) -> io::Res
 fn print_unrolled(rt: &impl Print, file: &[u8]) -> io::Result<()> {
     let mut result: [u8; limits::MAX_BYTES] = zeros();
     match unroll_files::unroll(file, &mut result) {
-        Answer::Cut => print_line(rt, lines::cut()),
-        Answer::Refused(number) => print_line(rt, lines::refusal(number)),
-        Answer::Unrolled(count) => print_file(rt, file, &result, count),
+        Ok(count) => print_file(rt, file, &result, count),
+        Err(error) => print_line(rt, lines::failure(error)),
     }
 }
 
 fn main(rt: HostRuntime) -> io::Result<()> {
     let mut space: [u8; ROOM] = zeros();
     let count = read_full(&mut rt.stdin(), &mut space)?;
-    print_unrolled(&rt, numbers::part(&space, 0, count))
+    print_unrolled(&rt, &space[..count])
 }

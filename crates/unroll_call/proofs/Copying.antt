@@ -7,22 +7,22 @@ use mathlib.Core.List.{List, [], ◌∷◌, ◌++◌, append_assoc, append-nil}
 use native.Mathlib.Omega.{arith}
 use lib.ListN.{length, get_or, drop, length-drop, length-append}
 use lib.Seq.{get_or-drop, drop-drop}
+use Rattle.std.specs.Prelude as std
+use Rattle.std.specs.Option.{unwrap_or}
 use Rattle.spec_base.specs.Limits.{max_bytes}
 use Rattle.spec_base.specs.Bytes.{le_bytes}
 use Rattle.spec_language.specs.Statement.{Statement, nothing}
 use Rattle.spec_sequence.specs.Commands.{Command, command_of, operandCount, partCount, operands_of, litres_fit, head_length, bytes_at, build}
-use Rattle.spec_sequence.specs.Amounts.{amount_in, amount_bytes}
 use Rattle.spec_sequence.specs.Writer.{bytes_of, size}
 use Rattle.theory_sequence.proofs.Amounts.{amount-read}
-use Rattle.theory_sequence.proofs.Table.{byte_of, byte_is, leaves, ones, twos, at_most_two, at_most-five, many}
-use Rattle.layout.specs.Layout.{rest, secondAt, Two, Parts, Form, Lies}
+use Rattle.theory_sequence.proofs.Table.{byte_of, byte_is, leaves, ones, twos, at_most_two, many}
+use Rattle.layout.specs.Layout.{rest, secondAt, Parts, Form, Lies}
 use Rattle.layout.proofs.Parts.{rest-is}
-use Rattle.commands.specs.declared.Count.{Count}
 use Rattle.commands.specs.Counts.{counted, count_of}
 use Rattle.spec_unroll.specs.Unrolled.{copied}
 use Rattle.unroll_call.specs.Putting.{Put, Room, copied_head, Copyable}
 use Rattle.unroll_call.proofs.Putting.{put_then, room_first, room_then}
-use Rattle.unroll_call.specs.Copying.{Copies, CopyReady, CopyPut, number_in}
+use Rattle.unroll_call.specs.Copying.{Copies, CopyReady, CopyPut}
 
 -- ---- the copy of each command, by those of its parts
 module _ (a : ℕ) (bs : List ℕ) where
@@ -258,5 +258,6 @@ ends {to = to} {left = left} {b = b} w z = w.gives b to (over w.copies z)
     over (Copies.next c e h x) l = absurd (omega arith)
 
 -- what the counts of a byte's command are
-pub counted_as : (f : Command → ℕ) (b : ℕ) {c : Command} {k : Count} {n : ℕ} → command_of b ≡ some c → k ≡ count_of (counted f (command_of b)) → n ≡ number_in k → n ≡ f c
-counted_as f b {c} {k} {n} e h g = g ∙ ap number_in h ∙ ap (λ (o : Option Command). number_in (count_of (counted f o))) e
+pub counted_as : (f : Command → ℕ) (b : ℕ) {c : Command} {k : std.Option ℕ} → command_of b ≡ some c → k ≡ count_of (counted f (command_of b))
+    → {n : ℕ} → n ≡ unwrap_or k 0 → n ≡ f c
+counted_as f b e h g = g ∙ ap (λ (k : std.Option ℕ). unwrap_or k 0) (h ∙ ap (λ (o : Option Command). count_of (counted f o)) e)

@@ -3,7 +3,7 @@ use Prim.Native.Nat.{ℕ, zero, suc, ◌+◌, ◌≤◌}
 use mathlib.Core.Path.{◌≡◌, refl, sym, ap, ◌∙◌, subst}
 use mathlib.Core.List.{List, [], ◌∷◌, ◌++◌}
 use native.Mathlib.Omega.{arith}
-use lib.ListN.{length, get_or, drop, length-append}
+use lib.ListN.{length, get_or, set, drop, length-append}
 use borrow.Author.Tests.{ne_eqb}
 use lib.Seq.{sets, length-sets, sets-eq}
 use Rattle.spec_sequence.specs.Commands.{bytes_at}
@@ -48,32 +48,28 @@ bytes_count : (i n : ℕ) (s : List ℕ) → length (bytes_at i n s) ≡ n
 bytes_count i zero s = refl
 bytes_count i (suc n) s = ap (λ (k : ℕ). suc k) (bytes_count (suc i) n s)
 
+bytes_next : (a k : ℕ) (s : List ℕ) → bytes_at a (suc k) s ≡ bytes_at a k s ++ (get_or s (a + k) 0 ∷ [])
+bytes_next a zero s = ap (λ (j : ℕ). get_or s j 0 ∷ []) (let e : a ≡ a + 0 = omega arith in e)
+bytes_next a (suc k) s =
+    let e : suc a + k ≡ a + suc k = omega arith in
+    ap (λ (l : List ℕ). get_or s a 0 ∷ l) (bytes_next (suc a) k s ∙ ap (λ (j : ℕ). bytes_at (suc a) k s ++ (get_or s j 0 ∷ [])) e)
+
+-- one byte more
+pub put_next : (i at k : ℕ) (s : List ℕ) {b b' : List ℕ} → Put i (bytes_at at k s) b b' (i + k)
+    → Put i (bytes_at at (k + 1) s) b (set b' (i + k) (get_or s (at + k) 0)) (i + (k + 1))
+put_next i at k s {b} {b'} h =
+    let x : List ℕ = get_or s (at + k) 0 ∷ [] in
+    let one : Put (i + k) x b' (set b' (i + k) (get_or s (at + k) 0)) (i + (k + 1)) = record { after = refl; end = omega arith } in
+    let e : k + 1 ≡ suc k = omega arith in
+    subst (λ (l : List ℕ). Put i l b (set b' (i + k) (get_or s (at + k) 0)) (i + (k + 1)))
+    (sym (ap (λ (m : ℕ). bytes_at at m s) e ∙ bytes_next at k s)) (put_then h one)
+
+pub room_of : {i n m : ℕ} {b : List ℕ} → Room i n b → n ≡ m → Room i m b
+room_of {i} {b = b} r e = subst (λ (k : ℕ). Room i k b) e r
+
 -- ---- operand bytes
-five_bytes : (i : ℕ) (s : List ℕ)
-    → (get_or s i 0 ∷ []) ++ ((get_or s (i + 1) 0 ∷ get_or s (i + 2) 0 ∷ []) ++ (get_or s (i + 3) 0 ∷ get_or s (i + 4) 0 ∷ [])) ≡ bytes_at i 5 s
-five_bytes i s =
-    let e₁ : i + 1 ≡ suc i = omega arith in
-    let e₂ : i + 2 ≡ suc (suc i) = omega arith in
-    let e₃ : i + 3 ≡ suc (suc (suc i)) = omega arith in
-    let e₄ : i + 4 ≡ suc (suc (suc (suc i))) = omega arith in
-    rw (e₁, e₂, e₃, e₄)
-
--- what was space for n bytes is space for those of them that are left
-pub room_left : {i j n : ℕ} {xs b b' : List ℕ} (m : ℕ) → Room i n b → Put i xs b b' j → length xs + m ≤ n → Room j m b'
-room_left m r h l = record { fits = omega (arith, r.fits, h.end, put-length h, l); sized = put-length h ∙ r.sized }
-
-module _ {at n : ℕ} {s : List ℕ} {i : ℕ} {b : List ℕ} (w : Operands at n s i b) (z : n ≡ 0 → ⊥) where
-  pub first-room : Room i 1 b
-  first-room = record { fits = omega (arith, w.room.fits, z); sized = w.room.sized }
-
-  module _ (y : n ≡ 1 → ⊥) where
-    pub five : n ≡ 5
-    five = w.count (omega (arith, z, y))
-
-    pub five-put : {b₁ b₂ b₃ : List ℕ} {j k r : ℕ} → Put i (get_or s at 0 ∷ []) b b₁ j → Put j (get_or s (at + 1) 0 ∷ get_or s (at + 2) 0 ∷ []) b₁ b₂ k
-        → Put k (get_or s (at + 3) 0 ∷ get_or s (at + 4) 0 ∷ []) b₂ b₃ r → Put i (bytes_at at n s) b b₃ r
-    five-put {b₃ = b₃} {r = r} f g h =
-        subst (λ (l : List ℕ). Put i l b b₃ r) (five_bytes at s ∙ ap (λ (m : ℕ). bytes_at at m s) (sym five)) (put_then f (put_then g h))
+pub five : {at n : ℕ} {s : List ℕ} {i : ℕ} {b : List ℕ} → Operands at n s i b → (n ≡ 0 → ⊥) → (n ≡ 1 → ⊥) → n ≡ 5
+five w z y = w.count (omega (arith, z, y))
 
 -- ---- a command in a copy
 pub loop_put : {i : ℕ} {b : List ℕ} (x : ℕ) (xs : List ℕ) → x ≡ 6 → Put i (copied_head x xs) b b i

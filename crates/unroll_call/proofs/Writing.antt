@@ -1,11 +1,13 @@
 -- The bytes of each form of a command, from those of its parts.
-use Prim.Native.Nat.{ℕ, ◌+◌, ◌-◌, ◌≤◌}
+use Prim.Native.Nat.{ℕ, ◌+◌, ◌-◌, ◌≤◌, ◌<◌}
 use mathlib.Core.Path.{◌≡◌, refl, sym, ap, ◌∙◌, subst}
 use mathlib.Core.Bool.{true}
+use mathlib.Core.Logic.{◌⊎◌, inl, inr}
 use mathlib.Core.List.{List, [], ◌∷◌, ◌++◌}
 use native.Mathlib.Omega.{arith}
+use native.Mathlib.Decide.{ℕ_discrete}
 use lib.ListN.{length, get_or}
-use Rattle.spec_language.specs.Statement.{Statement, nothing, pause, emit, exit, seq, par, loop, present, signal, try, setpause, suspend}
+use Rattle.spec_language.specs.Statement.{Statement, nothing, loop}
 use Rattle.spec_sequence.specs.Commands.{Command, operands_of, partCount, litres_fit, head_length, build, bytes_at}
 use Rattle.spec_sequence.specs.Amounts.{amount_in, amount_bytes}
 use Rattle.spec_sequence.specs.Writer.{bytes_of}
@@ -20,6 +22,9 @@ use Rattle.unroll_call.proofs.Putting.{put_then, room_first, room_then}
 use Rattle.unroll_call.specs.Copying.{CopyReady, CopyPut}
 use Rattle.unroll_call.proofs.Copying.{lies_copied}
 use Rattle.unroll_call.specs.Writing.{unrolled_bytes, loop_bytes, Writable, Writes, WritableTwo, WritesTwo, WritableLoop, WritesLoop}
+
+pub four_or_five : (x : ℕ) → 4 ≤ x → x < 6 → (x ≡ 4) ⊎ (x ≡ 5)
+four_or_five x l m = elim (ℕ_discrete x 4) [ yes e ↦ inl e | no n ↦ inr (omega (arith, l, m, n)) ]
 
 -- ---- the bytes of each command
 module _ (a : ℕ) (bs : List ℕ) where
@@ -212,6 +217,28 @@ module _ {t : List ℕ} {d a : ℕ} {bs : List ℕ} {i : ℕ} {b : List ℕ} (w 
       two-writes h f base p l =
           let y = two-of base p l in
           put_as (ap unrolled_bytes y.2.0 ∙ own a bs e y.0 y.1) (put_then h (f base y.0 y.1 y.2.1))
+
+  -- ---- signal or suspend
+  module _ (e : (get_or bs 0 0 ≡ 8) ⊎ (get_or bs 0 0 ≡ 11)) where
+    pub wide-head : (2 ≤ length bs) × Room i (length (bytes_at 0 2 bs)) b
+    wide-head = elim e [ inl y ↦ one-head Command.signal refl y own_signal | inr y ↦ one-head Command.suspend refl y own_suspend ]
+
+    pub wide-writable : {b' : List ℕ} {j : ℕ} → Put i (bytes_at 0 2 bs) b b' j → (2 ≤ length bs) × Writable t (d - 1) (a + 2) (rest 2 bs) j b'
+    wide-writable h = elim e [ inl y ↦ one-writable Command.signal refl y own_signal h | inr y ↦ one-writable Command.suspend refl y own_suspend h ]
+
+    pub wide-writes : {b₁ b₂ : List ℕ} {j m : ℕ} → Put i (bytes_at 0 2 bs) b b₁ j → Writes t (d - 1) (a + 2) (rest 2 bs) j b₁ b₂ m → Writes t d a bs i b b₂ m
+    wide-writes h f = elim e [ inl y ↦ one_writes Command.signal refl y own_signal h f | inr y ↦ one_writes Command.suspend refl y own_suspend h f ]
+
+  -- ---- seq or par
+  module _ (e : (get_or bs 0 0 ≡ 4) ⊎ (get_or bs 0 0 ≡ 5)) where
+    pub both-head : (1 ≤ length bs) × Room i (length (bytes_at 0 1 bs)) b
+    both-head = elim e [ inl y ↦ two-head Command.seq refl y own_seq | inr y ↦ two-head Command.par refl y own_par ]
+
+    pub both-writable : {b' : List ℕ} {j : ℕ} → Put i (bytes_at 0 1 bs) b b' j → WritableTwo t (d - 1) a 1 bs j b'
+    both-writable h = elim e [ inl y ↦ two-writable Command.seq refl y own_seq h | inr y ↦ two-writable Command.par refl y own_par h ]
+
+    pub both-writes : {b₁ b₂ : List ℕ} {j m : ℕ} → Put i (bytes_at 0 1 bs) b b₁ j → WritesTwo t (d - 1) a 1 bs j b₁ b₂ m → Writes t d a bs i b b₂ m
+    both-writes h f = elim e [ inl y ↦ two-writes Command.seq refl y own_seq h f | inr y ↦ two-writes Command.par refl y own_par h f ]
 
   -- ---- what is left: pause, emit, exit and setpause
   abbrev pub Others : ℕ → Type 0

@@ -3,8 +3,6 @@ use Rattle.std.specs.Prelude.{ℕ, suc, ◌+◌, ◌≤◌, ◌≡◌, List, [],
 use Rattle.std.proofs.Math.Option.{some}
 use Rattle.spec_base.specs.Limits.{max_bytes}
 use Rattle.spec_sequence.specs.Commands.{Command, command_of, operands_of, partCount, head_length}
-use Rattle.commands.specs.declared.Count.{Count}
-use Rattle.commands.specs.declared.Count.TheVariants.{NoCommand, Of}
 use Rattle.unroll_call.specs.Putting.{Put, Room, copied_head}
 
 -- n statements stand at the front of bs, one behind the other, and cs are the bytes of their copies:
@@ -23,8 +21,3 @@ pub record CopyReady (bs : List ℕ) (i : ℕ) (b : List ℕ) : Type 0 where
 
 abbrev pub CopyPut : (bs : List ℕ) (i : ℕ) (b b' : List ℕ) (r : ℕ) → Type 0
 CopyPut bs i b b' r = (cs : List ℕ) → Copies 1 bs cs → Put i cs b b' r
-
--- a count of operand bytes or of parts; of no command none
-abbrev pub number_in : Count → ℕ
-number_in NoCommand = 0
-number_in (Of n) = n

@@ -20,33 +20,17 @@ pub fn put_two(x: u8, y: u8, i: usize, buffer: &mut [u8]) -> usize
     put_one(y, j, buffer)
 }
 
-// Puts the own bytes of the command at the front of s, of which there is one.
-pub fn one(s: &[u8], i: usize, buffer: &mut [u8]) -> usize
-    requires in_bounds { 1 ≤ length s.now }
-    requires room { Room i 1 buffer.old }
-    ensures { Put i (bytes_at 0 1 s.now) buffer.old buffer.new result }
+// Puts the N bytes of s from s[at] on. N is a constant: over a count that varies, the loop may become a call of memcpy, and the header
+// promises memset alone.
+pub fn own<const N: usize>(s: &[u8], at: usize, i: usize, buffer: &mut [u8]) -> usize
+    requires in_bounds { at + N ≤ length s.now }
+    requires room { Room i N buffer.old }
+    ensures { Put i (bytes_at at N s.now) buffer.old buffer.new result }
 {
-    put_one(s[0], i, buffer)
-}
-
-// The same of a command of two bytes.
-pub fn two(s: &[u8], i: usize, buffer: &mut [u8]) -> usize
-    requires in_bounds { 2 ≤ length s.now }
-    requires room { Room i 2 buffer.old }
-    ensures { Put i (bytes_at 0 2 s.now) buffer.old buffer.new result }
-{
-    put_two(s[0], s[1], i, buffer)
-}
-
-// The same of a command of six bytes.
-pub fn six(s: &[u8], i: usize, buffer: &mut [u8]) -> usize
-    requires in_bounds { 6 ≤ length s.now }
-    requires room { Room i 6 buffer.old }
-    ensures { Put i (bytes_at 0 6 s.now) buffer.old buffer.new result }
-{
-    let j = put_two(s[0], s[1], i, buffer);
-    let k = put_two(s[2], s[3], j, buffer);
-    put_two(s[4], s[5], k, buffer)
+    for k in 0..N {
+        buffer[i + k] = s[at + k];
+    }
+    i + N
 }
 
 // The command byte b in a copy: that of a setpause for a pause.
@@ -65,15 +49,11 @@ fn operands(s: &[u8], at: usize, n: usize, i: usize, buffer: &mut [u8]) -> usize
     requires { Operands at n s.now i buffer.old }
     ensures { Put i (bytes_at at n s.now) buffer.old buffer.new result }
 {
-    if n == 0 {
-        return i;
+    match n {
+        0 => i,
+        1 => own::<1>(s, at, i, buffer),
+        _ => own::<5>(s, at, i, buffer),
     }
-    let j = put_one(s[at], i, buffer);
-    if n == 1 {
-        return j;
-    }
-    let k = put_two(s[at + 1], s[at + 2], j, buffer);
-    put_two(s[at + 3], s[at + 4], k, buffer)
 }
 
 // Puts the own bytes of the command at s[at], with n operand bytes, as a copy has them: none of a loop.

@@ -1,14 +1,14 @@
 // How long and how deep a statement is with its loops written out (02, item 13). Each number stays at one more than its limit.
 ghost use Rattle.std.specs.Prelude.{◌≡◌, ◌+◌, ◌-◌, ◌≤◌, max, length};
 ghost use Rattle.layout.specs.Layout.{rest, Ready, Pair};
-ghost use Rattle.unroll_call.specs.Measured.{capped_bytes, capped_depth, SizesOf, Measured, MeasuredTwo, Few};
+ghost use Rattle.unroll_call.specs.Measured.{SizesOf, Measured, MeasuredTwo, Few};
 
 use commands::Shape;
 use layout::SecondParts;
 
 // Of a statement: the bytes of its copy, and the bytes and the depth of it worked through. One of the three is wider, so that the
 // compiler adds them one by one: vector operations would bring read-only operands.
-#[derive(Clone, Copy)]
+#[derive(Clone, Copy, Debug, PartialEq, Eq)]
 pub struct Sizes {
     pub copy: u32,
     pub whole: u64,
@@ -21,38 +21,14 @@ const MOST_BYTES: u64 = limits::MAX_BYTES as u64 + 1;
 
 const MOST_DEPTH: u32 = limits::MAX_DEPTH as u32 + 1;
 
-fn copy_capped(x: u32) -> u32
-    ensures { result ≡ capped_bytes x }
-{
-    if x < MOST_COPIED { x } else { MOST_COPIED }
-}
-
-fn whole_capped(x: u64) -> u64
-    ensures { result ≡ capped_bytes x }
-{
-    if x < MOST_BYTES { x } else { MOST_BYTES }
-}
-
-fn depth_capped(x: u32) -> u32
-    ensures { result ≡ capped_depth x }
-{
-    if x < MOST_DEPTH { x } else { MOST_DEPTH }
-}
-
-fn greater(x: u32, y: u32) -> u32
-    ensures { result ≡ max x y }
-{
-    if x < y { y } else { x }
-}
-
 // These numbers, capped.
 fn capped(copy: u32, whole: u64, depth: u32) -> Sizes
     ensures { SizesOf copy whole depth result }
 {
     Sizes {
-        copy: copy_capped(copy),
-        whole: whole_capped(whole),
-        depth: depth_capped(depth),
+        copy: copy.min(MOST_COPIED),
+        whole: whole.min(MOST_BYTES),
+        depth: depth.min(MOST_DEPTH),
     }
 }
 
@@ -80,7 +56,7 @@ fn around_two(p: Sizes, q: Sizes, w: u32) -> Sizes
     capped(
         w + p.copy + q.copy,
         w as u64 + p.whole + q.whole,
-        1 + greater(p.depth, q.depth),
+        1 + p.depth.max(q.depth),
     )
 }
 

@@ -1,25 +1,25 @@
 // The bytes of a statement with its loops written out (02, item 13), put into a buffer one behind the other. A loop's body is copied
 // command by command: nothing of a copy depends on where the parts of its commands begin.
-ghost use Rattle.std.specs.Prelude.{◌≡◌, ◌-◌, ◌≤◌, length};
+ghost use Rattle.std.specs.Prelude.{◌≡◌, ◌-◌, ◌≤◌, length, unwrap_or};
 ghost use Rattle.layout.specs.Layout.{rest};
 ghost use Rattle.unroll_call.specs.Writing.{Writable, Writes, WritableTwo, WritesTwo, WritableLoop, WritesLoop};
-ghost use Rattle.unroll_call.specs.Copying.{CopyReady, CopyPut, number_in};
+ghost use Rattle.unroll_call.specs.Copying.{CopyReady, CopyPut};
 
-use crate::heads::{copied, one, put_two, six, two};
-use commands::Count;
+use crate::heads::{copied, own, put_two};
 use layout::SecondParts;
 
-// A count of operand bytes or of parts.
-fn number(count: Count) -> usize
-    ensures { result ≡ number_in count }
+// A count of operand bytes or of parts. Matched here: by `unwrap_or` in `copy` the writing of loops takes 1.6 times as long.
+fn number(count: Option<u8>) -> usize
+    ensures { result ≡ unwrap_or count 0 }
 {
     match count {
-        Count::NoCommand => 0,
-        Count::Of(n) => n as usize,
+        None => 0,
+        Some(n) => n as usize,
     }
 }
 
-// Puts the copy of the statement from s[1] on. `left` statements are still to copy, one behind the other from s[at] on.
+// Puts the copy of the statement from s[1] on. `left` statements are still to copy, one behind the other from s[at] on: each command says
+// how far `at` goes and how many parts join `left`, so no range or iterator counts the turns.
 fn copy(s: &[u8], i: usize, buffer: &mut [u8]) -> usize
     requires { CopyReady (rest 1 s.now) i buffer.old }
     ensures { CopyPut (rest 1 s.now) i buffer.old buffer.new result }
@@ -52,25 +52,22 @@ pub fn write(
 {
     let command = s[0];
     match command {
-        limits::NOTHING => one(s, i, buffer),
-        limits::SEQUENCE => parts(s, at, 1, depth, second, one(s, i, buffer), buffer),
-        limits::PARALLEL => parts(s, at, 1, depth, second, one(s, i, buffer), buffer),
+        limits::NOTHING => own::<1>(s, 0, i, buffer),
+        limits::SEQUENCE | limits::PARALLEL => {
+            parts(s, at, 1, depth, second, own::<1>(s, 0, i, buffer), buffer)
+        }
         limits::LOOP => looped(s, at + 1, depth - 1, second, i, buffer),
-        limits::PRESENT => parts(s, at, 2, depth, second, two(s, i, buffer), buffer),
-        limits::SIGNAL => {
-            let j = two(s, i, buffer);
+        limits::PRESENT => parts(s, at, 2, depth, second, own::<2>(s, 0, i, buffer), buffer),
+        limits::SIGNAL | limits::SUSPEND => {
+            let j = own::<2>(s, 0, i, buffer);
             part(s, 2, at + 2, depth - 1, second, j, buffer)
         }
         limits::TRY => {
-            let j = one(s, i, buffer);
+            let j = own::<1>(s, 0, i, buffer);
             part(s, 1, at + 1, depth - 1, second, j, buffer)
         }
-        limits::SUSPEND => {
-            let j = two(s, i, buffer);
-            part(s, 2, at + 2, depth - 1, second, j, buffer)
-        }
-        limits::DELIVER => six(s, i, buffer),
-        _ => two(s, i, buffer),
+        limits::DELIVER => own::<6>(s, 0, i, buffer),
+        _ => own::<2>(s, 0, i, buffer),
     }
 }
 

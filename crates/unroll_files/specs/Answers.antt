@@ -1,11 +1,12 @@
 -- What the code's answer stands for, with the buffer after it: the bytes to write.
-use Rattle.std.specs.Prelude.{ℕ, List}
+use Rattle.std.specs.Prelude.{ℕ, List, Result, Ok, Err}
 use Rattle.spec_programs.specs.Text.{input_cut, refusal}
 use Rattle.spec_programs.specs.Output.{with_sequence}
-use Rattle.unroll_files.specs.declared.Answer.{Answer}
-use Rattle.unroll_files.specs.declared.Answer.TheVariants as answers
+use Rattle.limits.specs.Rows.{row_number}
+use Rattle.files.specs.declared.FileError.{FileError}
+use Rattle.files.specs.declared.FileError.TheVariants as errors
 
-abbrev pub output_by : (file buffer : List ℕ) → Answer → List ℕ
-output_by file buffer answers.Cut = input_cut
-output_by file buffer (answers.Refused number) = refusal number
-output_by file buffer (answers.Unrolled n) = with_sequence file n buffer
+abbrev pub output_by : (file buffer : List ℕ) → Result ℕ FileError → List ℕ
+output_by file buffer (Err errors.Cut) = input_cut
+output_by file buffer (Err (errors.Refused row)) = refusal (row_number row)
+output_by file buffer (Ok n) = with_sequence file n buffer

@@ -7,31 +7,21 @@ ghost use Rattle.spec_programs.specs.File.{length_bytes};
 ghost use Rattle.spec_programs.specs.Output.{output_of};
 ghost use Rattle.unroll_files.specs.Answers.{output_by};
 
-#[derive(Clone, Copy)]
-pub enum Answer {
-    Cut,
-    Refused(u8),
-    Unrolled(usize),
-}
+use files::FileError;
 
 // The result goes to the front of the buffer, and its length is answered, or why there is none.
-pub fn unroll(file: &[u8], buffer: &mut [u8]) -> Answer
+pub fn unroll(file: &[u8], buffer: &mut [u8]) -> Result<usize, FileError>
     ensures { output_by file.now buffer.new result ≡ output_of file.now buffer.old }
 {
     if !files::is_whole(file) {
-        return Answer::Cut;
+        return Err(FileError::Cut);
     }
-    let read_back = files::read_back(file);
-    let w = unroll_call::unroll(files::sequence(file), read_back, buffer);
-    if w.number == 0 {
-        return Answer::Unrolled(w.count);
-    }
-    Answer::Refused(w.number)
+    Ok(unroll_call::unroll(files::sequence(file), files::read_back(file), buffer)?)
 }
 
 // The two bytes that begin a file: the length of its sequence.
 pub fn length_bytes(count: usize) -> [u8; 2]
     ensures { result ≡ le_bytes length_bytes count }
 {
-    [(count % 256) as u8, (count / 256 % 256) as u8]
+    ((count % 65536) as u16).to_le_bytes()
 }

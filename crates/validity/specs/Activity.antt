@@ -1,5 +1,5 @@
 -- Row 11 over the bytes, for whatever statement they encode (layout, specs/Layout), by the ranks that reading noted.
-use Rattle.std.specs.Prelude.{ℕ, ◌<◌, ◌≡◌, true, false, List}
+use Rattle.std.specs.Prelude.{ℕ, ◌<◌, ◌≡◌, true, false, List, Option, Some, None}
 use Rattle.spec_base.specs.Limits.{label_count}
 use Rattle.spec_base.specs.Sets.{member, Subset}
 use Rattle.spec_language.specs.Statement.{Statement}
@@ -8,8 +8,7 @@ use Rattle.theory_language.specs.Ranks.{mask}
 use Rattle.labels.specs.Labels.{label_set}
 use Rattle.layout.specs.Notes.{Noted, rank_in}
 use Rattle.layout.specs.Known.{Known}
-use Rattle.validity.specs.declared.Validity.{Validity}
-use Rattle.validity.specs.declared.Validity.TheVariants.{Valid, Invalid}
+use Rattle.labels.specs.declared.Labels.{Labels}
 
 -- the numbers of L are labels, and their noted ranks are numbers of a mask
 abbrev pub Ranked : (notes : List ℕ) (L : ℕ) → Type 0
@@ -20,9 +19,9 @@ abbrev pub Masked : (notes : List ℕ) (L m : ℕ) → Type 0
 Masked notes L m = (p : Statement) → Noted p notes → distinct p ≡ true → Subset L (pauses p) → m ≡ mask 0 p L
 
 -- r says whether L is valid, and has the ranks of its pauses
-abbrev pub ValidityOf : Statement → (L : ℕ) → Validity → Type 0
-ValidityOf p L (Valid m) = (valid p L ≡ true) × (label_set m ≡ mask 0 p L)
-ValidityOf p L Invalid = valid p L ≡ false
+abbrev pub ValidityOf : Statement → (L : ℕ) → Option Labels → Type 0
+ValidityOf p L (Some m) = (valid p L ≡ true) × (label_set m ≡ mask 0 p L)
+ValidityOf p L None = valid p L ≡ false
 
-abbrev pub Judges : (t notes bs : List ℕ) (L : ℕ) (r : Validity) → Type 0
+abbrev pub Judges : (t notes bs : List ℕ) (L : ℕ) (r : Option Labels) → Type 0
 Judges t notes bs L r = (p : Statement) → Known t notes bs p → ValidityOf p L r

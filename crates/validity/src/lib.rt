@@ -76,14 +76,9 @@ fn compatible_parts(
     if labels::is_empty(q) {
         return compatible_part(s, w, at + w, depth - 1, second, p);
     }
-    if !parallel {
-        return false;
-    }
-    if compatible_part(s, w, at + w, depth - 1, second, p) {
-        compatible_part(s, n, m, depth - 1, second, q)
-    } else {
-        false
-    }
+    parallel
+        && compatible_part(s, w, at + w, depth - 1, second, p)
+        && compatible_part(s, n, m, depth - 1, second, q)
 }
 
 // The ranks of the pauses with these labels.
@@ -102,28 +97,21 @@ pub fn ranks(labels: Labels, notes: &Notes) -> Labels
     mask
 }
 
-// A valid set, with the ranks of its pauses, or none.
-#[derive(Clone, Copy)]
-pub enum Validity {
-    Valid(Labels),
-    Invalid,
-}
-
-// Whether a label set is valid for the statement that was read.
-pub fn validity_of(s: &[u8], second: &SecondParts, notes: &Notes, labels: Labels) -> Validity
+// The ranks of the pauses of a label set that is valid for the statement that was read.
+pub fn valid_ranks(s: &[u8], second: &SecondParts, notes: &Notes, labels: Labels) -> Option<Labels>
     requires { Sound second.now notes.now s.now }
     ensures { Judges second.now notes.now s.now (label_set labels) result }
 {
     if labels::is_empty(labels) {
-        return Validity::Invalid;
+        return None;
     }
     if !labels::subset(labels, notes::pauses(notes)) {
-        return Validity::Invalid;
+        return None;
     }
     let active = ranks(labels, notes);
     if compatible(&s[0..], 0, limits::MAX_DEPTH, second, active) {
-        Validity::Valid(active)
+        Some(active)
     } else {
-        Validity::Invalid
+        None
     }
 }

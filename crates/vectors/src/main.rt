@@ -29,7 +29,7 @@ fn main(rt: HostRuntime) -> io::Result<()> {
     let mut space = room();
     let count = read_full(&mut rt.stdin(), &mut space)?;
     if count == ROOM {
-        return vectors_notation::print::text(&rt, b"file too long\n");
+        return println!(rt; "file too long");
     }
     file_lines::all(&rt, &space[..count])
 }

@@ -1,10 +1,11 @@
 // Machines that tick on given inputs, and the lines of their calls.
-ghost use Rattle.std.specs.Prelude.{◌≡◌, ◌⊎◌, IfOk};
-ghost use Rattle.vectors_notation.specs.Room.{holds, zeroed, malformed_count};
+ghost use Rattle.std.specs.Prelude.{◌≡◌, IfOk};
+ghost use Rattle.std.specs.Option.{IfSome};
 
-use crate::vector::{Vector, malformed};
+use crate::vector::Vector;
+use limits::rows::{Refusal, row_number};
 use std::io;
-use vectors_notation::{Bytes, NONE, ROOM, print, word};
+use vectors_notation::{Bytes, ROOM, print, word};
 
 // What stands in an answer record before a call.
 const UNWRITTEN: u8 = 0xA5;
@@ -12,53 +13,24 @@ const UNWRITTEN: u8 = 0xA5;
 // Space for an answer record that is too long.
 const ANSWER_ROOM: usize = 16;
 
-// The tick on the first bytes of each buffer; 255 where a buffer has fewer.
+// What is printed where no call was made.
+const NO_CALL: u8 = 255;
+
+// The tick on the first bytes of each buffer; none where a buffer has fewer.
 fn call(
-    sequence: &[u8],
-    sequence_length: usize,
-    state: &mut [u8],
-    state_length: usize,
+    vector: &Vector,
+    state: &mut Bytes,
     input: u32,
-    read_back: u32,
     answer: &mut [u8],
     answer_length: usize,
-) -> u8 {
-    if sequence.len() < sequence_length {
-        return 255;
-    }
-    if state.len() < state_length {
-        return 255;
-    }
-    if answer.len() < answer_length {
-        return 255;
-    }
-    instants::tick(
-        &sequence[0..sequence_length],
-        &mut state[0..state_length],
+) -> Option<Result<(), Refusal>> {
+    Some(instants::tick(
+        vector.sequence.room.get(..vector.sequence.count)?,
+        state.room.get_mut(..state.count)?,
         input,
-        read_back,
-        &mut answer[0..answer_length],
-    )
-}
-
-// The line of a call: of its instant, or of its refusal with whether both records were kept.
-fn report(
-    rt: &impl Print,
-    instant: u64,
-    number: u8,
-    before: &[u8; ROOM],
-    state: &[u8; ROOM],
-    answer: &[u8; ANSWER_ROOM],
-) -> io::Result<()> {
-    if number == 0 {
-        return print::instant(rt, instant, state, answer);
-    }
-    let kept = *state == *before;
-    print::refusal(
-        rt,
-        number as u64,
-        kept & (*answer == [UNWRITTEN; ANSWER_ROOM]),
-    )
+        vector.read_back,
+        answer.get_mut(..answer_length)?,
+    ))
 }
 
 // One call and its line; answers the state record after it.
@@ -70,30 +42,23 @@ fn tick(
     instant: u64,
     input: u32,
 ) -> io::Result<Bytes> {
-    let sequence = vector.sequence;
-    let room = sequence.room;
-    let kept = before.room;
-    let mut state = before.room;
+    let mut after = before;
     let mut answer = [UNWRITTEN; ANSWER_ROOM];
-    let number = call(
-        &room,
-        sequence.count,
-        &mut state,
-        before.count,
-        input,
-        vector.read_back,
-        &mut answer,
-        answer_length,
-    );
-    report(rt, instant, number, &kept, &state, &answer)?;
-    Ok(Bytes {
-        room: state,
-        count: before.count,
-    })
+    let refused = match call(&vector, &mut after, input, &mut answer, answer_length) {
+        Some(Ok(())) => {
+            print::instant(rt, instant, &after.room, &answer)?;
+            return Ok(after);
+        }
+        Some(Err(refusal)) => row_number(refusal),
+        None => NO_CALL,
+    };
+    let kept = after.room == before.room && answer == [UNWRITTEN; ANSWER_ROOM];
+    print::refusal(rt, refused as u64, kept)?;
+    Ok(after)
 }
 
-// A machine: a call for each input that the line names from `from` on. Answers the vector, or a
-// malformed one where one of them is no input. An Err is a failed write, and leaves what was printed.
+// A machine: a call for each input that the line names from `from` on. Answers the vector, or none
+// where one of them is no input. An Err is a failed write, and leaves what was printed.
 pub fn run(
     rt: &impl Print,
     line: &[u8],
@@ -101,21 +66,21 @@ pub fn run(
     vector: Vector,
     record: Bytes,
     answer_length: usize,
-) -> io::Result<Vector>
-    ensures { IfOk result (λ after. (after ≡ vector) ⊎ (holds after.sequence ≡ zeroed malformed_count)) }
+) -> io::Result<Option<Vector>>
+    ensures { IfOk result (λ after. IfSome after (λ v. v ≡ vector)) }
 {
     let mut state = record;
     let mut at = from;
     let mut instant: u64 = 0;
+    // Each step goes on to the end of a word, so no index is counted that a `for` would spare.
     while at < line.len() {
         let word = word(line, at);
-        let input = word.value;
-        if NONE <= input {
-            return Ok(malformed());
-        }
+        let Some(input) = word.value else {
+            return Ok(None);
+        };
         instant += 1;
-        state = tick(rt, vector, state, answer_length, instant, input as u32)?;
+        state = tick(rt, vector, state, answer_length, instant, input)?;
         at = word.end;
     }
-    Ok(vector)
+    Ok(Some(vector))
 }

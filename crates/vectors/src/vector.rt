@@ -1,11 +1,11 @@
 // What the lines of a vector gave so far.
 ghost use Rattle.std.specs.Prelude.{◌≡◌};
-ghost use Rattle.vectors_notation.specs.Room.{holds, zeroed, malformed_count};
+ghost use Rattle.vectors_notation.specs.Room.{holds, zeroed};
 
-use vectors_notation::{Bytes, MALFORMED, zeros};
+use vectors_notation::{Bytes, zeros};
 
 // The sequence, and the read-back set of the calls that follow.
-#[derive(Clone, Copy)]
+#[derive(Clone, Copy, Debug, PartialEq, Eq)]
 pub struct Vector {
     pub sequence: Bytes,
     pub read_back: u32,
@@ -21,22 +21,9 @@ pub fn fresh() -> Vector
     }
 }
 
-// What a malformed line leaves.
-pub fn malformed() -> Vector
-    ensures { (holds result.sequence ≡ zeroed malformed_count) × (result.read_back ≡ 0) }
-{
-    Vector {
-        sequence: zeros(MALFORMED),
-        read_back: 0,
-    }
-}
-
 // The vector with another sequence.
 pub fn spelled(vector: Vector, sequence: Bytes) -> Vector
     ensures { (result.sequence ≡ sequence) × (result.read_back ≡ vector.read_back) }
 {
-    Vector {
-        sequence: sequence,
-        read_back: vector.read_back,
-    }
+    Vector { sequence, ..vector }
 }

@@ -2,7 +2,7 @@
 use Prim.Native.Nat.{ℕ, zero, suc, ◌+◌, ◌-◌, ◌≤◌, ◌<◌}
 use native.Mathlib.Omega.{arith}
 use mathlib.Core.Path.{◌≡◌, refl, sym, ap, ap₂, ◌∙◌}
-use mathlib.Core.Bool.{cond}
+use mathlib.Core.Bool.{Bool, true, false, cond}
 use mathlib.Core.List.{List}
 use lib.ListN.{length}
 use lib.Dec.{ltb}
@@ -46,17 +46,44 @@ module _ (line : List ℕ) where
   pub append-end : (at : ℕ) (h x : Held) → length line ≤ at → appended line at h ≡ x → h ≡ x
   append-end at h x l g = sym (no_word (length line) at h l) ∙ g
 
-  pub again-on : (n end : ℕ) (h more x : Held) → 0 < n → more ≡ appended line end h → again n line end h ≡ x → again (n - 1) line end more ≡ x
-  unfolding again
-  again-on zero end h more x l e g = absurd (omega arith)
-  again-on (suc n) end h more x l e g =
-      let q : suc n - 1 ≡ n = omega arith in
-      ap₂ (λ (k : ℕ) (y : Held). again k line end y) q e ∙ g
+  -- behind a malformed word, all is malformed
+  lost : (n at : ℕ) → words_from line n at (zeroed malformed_count) ≡ zeroed malformed_count
+  unfolding words_from zeroed
+  lost zero at = refl
+  lost (suc n) at =
+      let next = next_space line at in
+      go next (ltb at (length line)) (ltb (number_in 16 line at next) 256) (lost n next)
+    where
+      bad : Held
+      bad = zeroed malformed_count
 
-  pub again-end : (n end : ℕ) (h x : Held) → n ≤ 0 → again n line end h ≡ x → h ≡ x
+      go : (next : ℕ) (b d : Bool) → words_from line n next bad ≡ bad → cond b (words_from line n next (cond d bad bad)) bad ≡ bad
+      go next true true e = e
+      go next true false e = e
+      go next false d e = refl
+
+  pub append-none : (at v e : ℕ) (h x : Held) → at < length line → v ≡ word_value line at → e ≡ word_end line at
+      → zeroed malformed_count ≡ pushed h v → appended line at h ≡ x → zeroed malformed_count ≡ x
+  append-none at v e h x l ev ee em g = sym (lost (length line) e) ∙ append-on at v e h (zeroed malformed_count) x l ev ee em g
+
+  lost_again : (n end : ℕ) → again n line end (zeroed malformed_count) ≡ zeroed malformed_count
   unfolding again
-  again-end zero end h x l g = g
-  again-end (suc n) end h x l g = absurd (omega arith)
+  lost_again zero end = refl
+  lost_again (suc n) end = rw (lost (length line) end) (lost_again n end)
+
+  module _ (times done end : ℕ) (h x : Held) (g : again (times - done) line end h ≡ x) where
+    pub again-on : (more : Held) → done < times → more ≡ appended line end h → again (times - (done + 1)) line end more ≡ x
+    unfolding again
+    again-on more l e =
+        let q : times - done ≡ suc (times - (done + 1)) = omega (arith, l) in
+        rw e (sym (ap (λ (n : ℕ). again n line end h) q) ∙ g)
+
+    pub again-none : done < times → zeroed malformed_count ≡ appended line end h → zeroed malformed_count ≡ x
+    again-none l e = sym (lost_again (times - (done + 1)) end) ∙ again-on (zeroed malformed_count) l e
+
+    pub again-end : times ≤ done → h ≡ x
+    unfolding again
+    again-end l = let q : times - done ≡ 0 = omega (arith, l) in sym (ap (λ (n : ℕ). again n line end h) q) ∙ g
 
   -- ---- what each return of the repeating gives
   pub repeat-none : (from : ℕ) (h : Held) → length line ≤ from → zeroed malformed_count ≡ repeated line from h

@@ -1,26 +1,26 @@
--- A search for a byte, step by step.
-use Rattle.std.proofs.Common.{◌≡◌, ◌≢◌, ℕ, suc, ◌+◌, ◌-◌, ◌≤◌, ◌<◌, List, ◌∷◌, length, take, slice_range, arith, ap, ap₂, ◌∙◌}
-use Rattle.std.proofs.lemmas.List.{drop_more}
-use Rattle.std.proofs.Math.ListN.{get_or}
-use borrow.Author.Tests.{eq-eqb, ne_eqb}
+-- A search for a byte is the library's.
+use Rattle.std.proofs.Common.{◌≡◌, ap, refl, ℕ, suc, ◌+◌, ◌≤◌, List, [], ◌∷◌, length, arith}
+use Rattle.std.specs.Prelude.{◌==◌, nat_lt, cond, Some, None}
+use Rattle.std.specs.List.{position, position_or_len}
+use Rattle.std.specs.Option.{unwrap_or}
+use Rattle.std.proofs.lemmas.List.Recursion.{is_position_or_len}
+use Rattle.std.proofs.lemmas.Bool.Decides.{nat_tests}
 use Rattle.vectors_notation.specs.Scan.{index_of}
 
-module _ (b : ℕ) (xs : List ℕ) (at end : ℕ) where
-  begins : at < end → end ≤ length xs → slice_range xs at end ≡ get_or xs at 0 ∷ slice_range xs (at + 1) end
-  begins l m = ap₂ (λ (n : ℕ) (ys : List ℕ). take n ys) one (drop_more xs at 0 (omega (arith, l, m)))
-    where
-      one : end - at ≡ suc (end - (at + 1))
-      one = omega (arith, l)
+at_most : (b : ℕ) (xs : List ℕ) → index_of b xs ≤ length xs
+unfolding index_of
+at_most b [] = omega arith
+at_most b (x ∷ xs) = let h = at_most b xs in grind (arith, nat_tests, h)
 
-  pub past : at < end → end ≤ length xs → get_or xs at 0 ≢ b
-      → at + index_of b (slice_range xs at end) ≡ at + 1 + index_of b (slice_range xs (at + 1) end)
-  unfolding index_of
-  past l m n = ap (λ (ys : List ℕ). at + index_of b ys) (begins l m) ∙ rw (ne_eqb (get_or xs at 0) b n) (omega arith)
+library : (b : ℕ) (xs : List ℕ) → index_of b xs ≡ position_or_len (λ (x : ℕ). x == b) xs
+unfolding index_of
+library b xs = is_position_or_len (index_of b) (λ (x : ℕ). x == b) refl (λ x ys. later x (index_of b ys)) xs
+  where
+    later : (x n : ℕ) → cond (x == b) 0 (suc n) ≡ cond (x == b) 0 (1 + n)
+    later x n = let e : suc n ≡ 1 + n = omega arith in ap (λ (k : ℕ). cond (x == b) 0 k) e
 
-  pub here : at < end → end ≤ length xs → get_or xs at 0 ≡ b → at + index_of b (slice_range xs at end) ≡ at
-  unfolding index_of
-  here l m e = ap (λ (ys : List ℕ). at + index_of b ys) (begins l m) ∙ rw (eq-eqb (get_or xs at 0) b e) (omega arith)
+chosen : (n m : ℕ) → n ≤ m → unwrap_or (cond (nat_lt n m) (Some n) None) m ≡ n
+chosen n m h = grind (arith, nat_tests)
 
-  pub gone : end ≤ at → at + index_of b (slice_range xs at end) ≡ at
-  unfolding index_of
-  gone l = let z : end - at ≡ 0 = omega (arith, l) in rw z (omega arith)
+pub found : (b : ℕ) (xs : List ℕ) → unwrap_or (position (λ (x : ℕ). x == b) xs) (length xs) ≡ index_of b xs
+found b xs = rw (← library b xs) (chosen (index_of b xs) (length xs) (at_most b xs))

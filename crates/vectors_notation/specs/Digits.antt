@@ -5,9 +5,13 @@ use Rattle.std.specs.Prelude.{ℕ, zero, suc, ◌+◌, ◌*◌, ◌-◌, ◌&&�
 abbrev pub no_number : ℕ
 no_number = 0x100000000
 
--- the digit that a byte is, 0 to 9 and A to F; 16 where it is none
+-- what stands for no digit
+abbrev pub not_a_digit : ℕ
+not_a_digit = 16
+
+-- the digit that a byte is, 0 to 9 and A to F
 unfoldable pub digit_of : ℕ → ℕ
-digit_of b = cond (leb 48 b && leb b 57) (b - 48) (cond (leb 65 b && leb b 70) (b - 55) 16)
+digit_of b = cond (leb 48 b && leb b 57) (b - 48) (cond (leb 65 b && leb b 70) (b - 55) not_a_digit)
 
 -- the number that a value becomes with one digit more behind it; it has at most eight digits
 unfoldable pub extended_by : (base value byte : ℕ) → ℕ

@@ -1,5 +1,5 @@
 -- The bytes that lines of the file give: a buffer, and how many bytes of it are meant.
-use Rattle.std.specs.Prelude.{ℕ, zero, suc, ◌+◌, cond, List, length, replicate, set, ltb}
+use Rattle.std.specs.Prelude.{ℕ, zero, suc, ◌+◌, cond, Option, None, Some, List, length, replicate, set, ltb}
 use Rattle.vectors_notation.specs.Digits.{number_in}
 use Rattle.vectors_notation.specs.Words.{next_space}
 use Rattle.vectors_notation.specs.declared.Bytes.{Bytes}
@@ -19,6 +19,11 @@ holds b = held b.room b.count
 
 unfoldable pub zeroed : (count : ℕ) → Held
 zeroed count = held (replicate room_length 0) count
+
+-- what a result holds; a malformed line gives none
+abbrev pub held_or_malformed : Option Bytes → Held
+held_or_malformed None = zeroed malformed_count
+held_or_malformed (Some b) = holds b
 
 -- one byte more
 abbrev pub pushed : Held → (value : ℕ) → Held

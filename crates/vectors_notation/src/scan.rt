@@ -8,9 +8,6 @@ pub fn find(bytes: &[u8], from: usize, end: usize, byte: u8) -> usize
     ensures place { result ≡ from + index_of byte (slice_range bytes.now from end) }
     ensures bounds { (from ≤ result) × (result ≤ end) }
 {
-    let mut at = from;
-    while at < end && bytes[at] != byte {
-        at += 1;
-    }
-    at
+    let part = &bytes[from..end];
+    from + part.iter().position(|b| *b == byte).unwrap_or(part.len())
 }

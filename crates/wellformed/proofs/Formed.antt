@@ -10,11 +10,12 @@ use Rattle.spec_language.specs.Statement.{Statement}
 use Rattle.spec_language.specs.LabelTests as Esterel
 use Rattle.spec_language.specs.LabelTests.{pauses, targeted, exclusive_with, concurrent_with, well_formed}
 use Rattle.theory_language.proofs.LabelTests.{rivals_paused, aside_paused, unmixed_is}
+use Rattle.labels.specs.declared.Labels.{Labels}
 use Rattle.wellformed.specs.Rows.{row_of}
 use Rattle.wellformed.specs.Clashes.{RowsWithin, Clash, Clashes}
 use Rattle.wellformed.proofs.Clashes.{clashes_of_all}
 
-module _ (p : Statement) (exclusive concurrent : List ℕ) (er : (k : ℕ) → row_of exclusive k ≡ exclusive_with p k) (es : (k : ℕ) → row_of concurrent k ≡ concurrent_with p k) where
+module _ (p : Statement) (exclusive concurrent : List Labels) (er : (k : ℕ) → row_of exclusive k ≡ exclusive_with p k) (es : (k : ℕ) → row_of concurrent k ≡ concurrent_with p k) where
   pair_is : (k l : ℕ) → (member l (row_of exclusive k) || member k (row_of exclusive l)) ≡ Esterel.exclusive p k l
   pair_is k l = ap₂ (λ (a b : ℕ). member l a || member k b) (er k) (er l)
 

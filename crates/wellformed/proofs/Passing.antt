@@ -13,6 +13,7 @@ use Rattle.spec_language.specs.Statement.{pure, litres, local, Statement, nothin
 use Rattle.spec_language.specs.LabelTests.{labels_of, alternative, parallel}
 use Rattle.theory_language.specs.LabelRows.{add_row, further, fill}
 use Rattle.theory_language.specs.Ranks.{middle}
+use Rattle.labels.specs.declared.Labels.{Labels}
 use Rattle.labels.specs.Labels.{label_set}
 use Rattle.wellformed.specs.Rows.{row_of, add_row_below, Updates}
 use Rattle.spec_base.specs.Bytes.{le_bytes}
@@ -28,14 +29,14 @@ use Rattle.wellformed.specs.Exclusion.{Carries, Joins, BeginsSecond}
 use Rattle.wellformed.specs.Survey.{Standing, StandingTwo, Past, Passes, PastTwo}
 
 -- ---- rows
-pub unchanged : {m : List ℕ} → Updates (λ rows. rows) m m
+pub unchanged : {m : List Labels} → Updates (λ rows. rows) m m
 unchanged = record { updates = λ l. (l, refl) }
 
 -- one traversal after another
-pub in_turn_lem : {f g : (ℕ → ℕ) → ℕ → ℕ} {m n o : List ℕ} → Updates f m n → Updates g n o → Updates (λ rows. g (f rows)) m o
+pub in_turn_lem : {f g : (ℕ → ℕ) → ℕ → ℕ} {m n o : List Labels} → Updates f m n → Updates g n o → Updates (λ rows. g (f rows)) m o
 in_turn_lem {g = g} s t = record { updates = λ l. let x = s.updates l in let y = t.updates x.0 in (y.0, y.1 ∙ ap g x.1) }
 
-row_of_label : (l s : ℕ) {m n : List ℕ} → l < label_count → Updates (add_row_below label_count l s) m n → Updates (add_row l s) m n
+row_of_label : (l s : ℕ) {m n : List Labels} → l < label_count → Updates (add_row_below label_count l s) m n → Updates (add_row l s) m n
 row_of_label l s {m} h t =
     record {
       updates = λ e. let x = t.updates e in
@@ -46,7 +47,7 @@ only_label : {l s : ℕ} → l < label_count → s ≡ only_below label_count l 
 only_label {l} h e = e ∙ rw (lt-ltb l label_count h)
 
 -- ---- what is said of a command is said of the statement that it is
-module _ (a : ℕ) (v : Before) (r : Walked) (m m' n n' : List ℕ) where
+module _ (a : ℕ) (v : Before) (r : Walked) (m m' n n' : List Labels) where
   pub here : (p t : Statement) → p ≡ t → Past t a v r m m' n n' → Past p a v r m m' n n'
   here p t e h = subst (λ (z : Statement). Past z a v r m m' n n') (sym e) h
 
@@ -54,7 +55,7 @@ ends_at : {r : Walked} {i j s t : ℕ} → i ≡ j → Carries r i s t → Carri
 ends_at e h = record { ends = h.ends ∙ e; paused = h.paused; triggering = h.triggering }
 
 -- ---- commands without parts
-module _ (a : ℕ) (v : Before) (r : Walked) (m n : List ℕ) where
+module _ (a : ℕ) (v : Before) (r : Walked) (m n : List Labels) where
   pub nothing-step : Carries r (a + 1) none none → Past nothing a v r m m n n
   unfolding labels_of bytes_of fill
   nothing-step h = record { labels = h; excludes = unchanged; sides = unchanged }
@@ -73,7 +74,7 @@ module _ (a : ℕ) (v : Before) (r : Walked) (m n : List ℕ) where
   deliver-step h s x = record { labels = h; excludes = unchanged; sides = unchanged }
 
   -- a label below the width
-  module _ (l : ℕ) (small : l < label_count) (n' : List ℕ) (w : Updates (add_row_below label_count l (label_set v.concurrent)) n n') where
+  module _ (l : ℕ) (small : l < label_count) (n' : List Labels) (w : Updates (add_row_below label_count l (label_set v.concurrent)) n n') where
     pub setpause-step : Carries r (a + 2) none (only_below label_count l) → Past (setpause l) a v r m m n n'
     unfolding labels_of bytes_of fill
     setpause-step h = record {
@@ -82,7 +83,7 @@ module _ (a : ℕ) (v : Before) (r : Walked) (m n : List ℕ) where
       sides = row_of_label l (label_set v.concurrent) small w;
     }
 
-    pub pause_step : (m' : List ℕ) → Carries r (a + 2) (only_below label_count l) (only_below label_count l)
+    pub pause_step : (m' : List Labels) → Carries r (a + 2) (only_below label_count l) (only_below label_count l)
         → Updates (add_row_below label_count l (label_set v.exclusive)) m m' → Past (pause l) a v r m m' n n'
     unfolding labels_of bytes_of fill
     pause_step m' h u = record {
@@ -96,7 +97,7 @@ abbrev pub Other : ℕ → Type 0
 Other b =
     ((((((((((Unit {0} × (b ≡ 0 → ⊥)) × (b ≡ 1 → ⊥)) × (b ≡ 4 → ⊥)) × (b ≡ 5 → ⊥)) × (b ≡ 6 → ⊥)) × (b ≡ 7 → ⊥)) × (b ≡ 8 → ⊥)) × (b ≡ 9 → ⊥)) × (b ≡ 10 → ⊥)) × (b ≡ 11 → ⊥)) × (b ≡ 12 → ⊥)
 
-pub other_step : {u : List ℕ} {d a : ℕ} {bs : List ℕ} (i : Ready u d a bs) (v : Before) (r : Walked) (m n : List ℕ) → Carries r (a + 2) none none
+pub other_step : {u : List ℕ} {d a : ℕ} {bs : List ℕ} (i : Ready u d a bs) (v : Before) (r : Walked) (m n : List Labels) → Carries r (a + 2) none none
     → Other (get_or bs 0 0) → (t : List ℕ) (base : ℕ) (p : Statement) → Lies t d base a bs p → Past p a v r m m n n
 other_step {d = d} {a = a} {bs = bs} i v r m n h o t base p l = go (command i).0 (command i).1
   where
@@ -116,7 +117,7 @@ other_step {d = d} {a = a} {bs = bs} i v r m n h o t base p l = go (command i).0
     go Command.deliver b = absurd (o.1 b)
 
 -- ---- commands of one part
-module _ (a : ℕ) (v : Before) (r : Walked) (m m' n n' : List ℕ) (p : Statement) where
+module _ (a : ℕ) (v : Before) (r : Walked) (m m' n n' : List Labels) (p : Statement) where
   pub loop-step : (b : ℕ) → Past p (a + 1) v r m m' n n' → Past (loop b p) a v r m m' n n'
   unfolding labels_of bytes_of fill
   loop-step b h = record { labels = ends_at (omega arith) h.labels; excludes = h.excludes; sides = h.sides }
@@ -146,7 +147,7 @@ module _ {d a w : ℕ} {bs : List ℕ} (i : StandingTwo d a w bs) where
   standing-first = record { table = i.table; ready = first-ready i.pair }
 
   -- the first part was passed
-  module _ {v : Before} {x : Walked} {m m' n n' : List ℕ} (h : Passes d (a + w) (rest w bs) v x m m' n n') where
+  module _ {v : Before} {x : Walked} {m m' n n' : List Labels} (h : Passes d (a + w) (rest w bs) v x m m' n n') where
     ended : x.end ≡ (a + w) + size i.pair.p
     ended = (h i.table i.pair.base i.pair.p i.pair.two.first).labels.ends
 
@@ -163,7 +164,7 @@ module _ {d a w : ℕ} {bs : List ℕ} (i : StandingTwo d a w bs) where
           (second_at i.table d i.pair.base a w bs i.pair.p i.pair.q i.pair.two x.end ended);
     }
 
-module _ (a : ℕ) (v : Before) (r : Walked) (m m' n n' : List ℕ) (p q : Statement) where
+module _ (a : ℕ) (v : Before) (r : Walked) (m m' n n' : List Labels) (p q : Statement) where
   pub seq-step : PastTwo false p q a 1 v r m m' n n' → Past (seq p q) a v r m m' n n'
   unfolding labels_of bytes_of fill
   seq-step h =
@@ -180,7 +181,7 @@ module _ (a : ℕ) (v : Before) (r : Walked) (m m' n n' : List ℕ) (p q : State
       record { labels = ends_at (omega (arith, length-append (bytes_of p) (bytes_of q))) h.labels; excludes = h.excludes; sides = h.sides }
 
   -- one part after the other; the rows m₁ and n₁ are those between them
-  pub parts_step : (w : ℕ) (b : Bool) (v₂ : Before) (x y : Walked) (m₁ n₁ : List ℕ) → Past p (a + w) v x m m₁ n n₁ → BeginsSecond b v x v₂
+  pub parts_step : (w : ℕ) (b : Bool) (v₂ : Before) (x y : Walked) (m₁ n₁ : List Labels) → Past p (a + w) v x m m₁ n n₁ → BeginsSecond b v x v₂
       → Past q x.end v₂ y m₁ m' n₁ n' → Joins x y r → PastTwo b p q a w v r m m' n n'
   parts_step w b v₂ x y m₁ n₁ h e k j =
       record {

@@ -43,15 +43,8 @@ fn clash(exclusive: &Matrix, concurrent: &Matrix, all: Labels, k: u8) -> bool
         (member k (label_set all) ≡ true) k }
 {
     let beside = crate::matrix::row(concurrent, k);
-    if labels::disjoint(beside, crate::matrix::row(exclusive, k)) {
-        if labels::member(all, k) {
-            in_row_of(exclusive, beside, k)
-        } else {
-            false
-        }
-    } else {
-        true
-    }
+    !labels::disjoint(beside, crate::matrix::row(exclusive, k))
+        || (labels::member(all, k) && in_row_of(exclusive, beside, k))
 }
 
 // Whether a label of `pauses` clashes. Where only these labels have a row, that is whether any label clashes (`clashes-of-all`).

@@ -11,14 +11,14 @@ use crate::matrix::Matrix;
 use labels::Labels;
 
 // What stands before a statement: the pauses exclusive with it, and the pauses and setpauses on another side of a parallel.
-#[derive(Clone, Copy)]
+#[derive(Clone, Copy, Debug, PartialEq, Eq)]
 pub struct Before {
     pub exclusive: Labels,
     pub concurrent: Labels,
 }
 
 // A statement that was passed: the offset behind it, the labels of its pauses, and those of its pauses and setpauses.
-#[derive(Clone, Copy)]
+#[derive(Clone, Copy, Debug, PartialEq, Eq)]
 pub struct Walked {
     pub end: usize,
     pub pauses: Labels,

@@ -6,20 +6,15 @@ ghost use Rattle.wellformed.specs.Rows.{row_of, add_row_below, Updates};
 
 use labels::Labels;
 
-// Two words for each label.
-pub const LENGTH: usize = 2 * limits::LABEL_COUNT;
-
-pub type Matrix = [u64; LENGTH];
+pub type Matrix = [Labels; limits::LABEL_COUNT];
 
 // Adds the labels of s to the row of k; a label outside the width has no row.
 pub fn add_row(rows: &mut Matrix, k: u8, s: Labels)
     ensures { Updates (add_row_below label_count k (label_set s)) rows.old rows.new }
 {
     if k < limits::LABELS {
-        let i = 2 * k as usize;
-        let all = labels::union(labels::from_words(rows[i], rows[i + 1]), s);
-        rows[i] = labels::low_word(all);
-        rows[i + 1] = labels::high_word(all);
+        let i = k as usize;
+        rows[i] = labels::union(rows[i], s);
     }
 }
 
@@ -27,8 +22,7 @@ pub fn row(rows: &Matrix, k: u8) -> Labels
     ensures { label_set result ≡ row_of rows.now k }
 {
     if k < limits::LABELS {
-        let i = 2 * k as usize;
-        labels::from_words(rows[i], rows[i + 1])
+        rows[k as usize]
     } else {
         labels::empty()
     }

@@ -13,8 +13,9 @@ pub fn is_well_formed(s: &[u8], pauses: Labels) -> bool
     requires { Standing max_depth 0 s.now }
     ensures { TellsWellFormed s.now (label_set pauses) result }
 {
-    let mut exclusive: Matrix = [0; crate::matrix::LENGTH];
-    let mut concurrent: Matrix = [0; crate::matrix::LENGTH];
+    let none = labels::empty();
+    let mut exclusive: Matrix = [none; limits::LABEL_COUNT];
+    let mut concurrent: Matrix = [none; limits::LABEL_COUNT];
     crate::survey::survey(s, &mut exclusive, &mut concurrent);
     !crate::clash::any_clash(&exclusive, &concurrent, pauses)
 }

@@ -1,6 +1,7 @@
 use borrow.Author.Rules.{rules}
 use Rattle.box_bays.proofs.Charging.{lent-answer}
 use Rattle.box_bays.proofs.Recording.{other-record, recorded-tick, refused-tick}
+use Rattle.limits.proofs.Refusals.{handed-on}
 use Rattle.box_bays.proofs.tick.Goals as goal
 
 pub returns-then-trace-ne-RECORD_LENGTH : goal.returns-then-trace-ne-RECORD_LENGTH
@@ -8,13 +9,14 @@ returns-then-trace-ne-RECORD_LENGTH c = other-record _ _ _ _ c.if-trace-ne-RECOR
 
 pub note-requires : goal.note-requires
 note-requires c =
-    let l = lent-answer _ _ _ c.step-number.ensures c.if-number-eq0.true in
+    let l = lent-answer _ _ _ c.in_ok-step.ensures in
     search rules
 
-pub returns-then-number-eq0 : goal.returns-then-number-eq0
-returns-then-number-eq0 c =
-    recorded-tick _ _ _ _ c.requires c.if-trace-ne-RECORD_LENGTH.false _ _ _ c.step-number.ensures c.if-number-eq0.true c.note.ensures
+pub returns-in_err-step : goal.returns-in_err-step
+returns-in_err-step c =
+    rw (handed-on _ _ c.from_residual.ensures.1)
+    (refused-tick _ _ _ _ c.requires c.if-trace-ne-RECORD_LENGTH.false _ _ _ c.in_err-step.ensures)
 
-pub returns-else-number-eq0 : goal.returns-else-number-eq0
-returns-else-number-eq0 c =
-    refused-tick _ _ _ _ c.requires c.if-trace-ne-RECORD_LENGTH.false _ _ _ c.step-number.ensures c.if-number-eq0.false
+pub returns : goal.returns
+returns c =
+    recorded-tick _ _ _ _ c.requires c.if-trace-ne-RECORD_LENGTH.false _ _ c.in_ok-step.ensures c.note.ensures

@@ -1,7 +1,5 @@
-use Prim.Native.Nat.{◌-◌}
 use native.Mathlib.Omega.{arith}
 use mathlib.Core.Path.{sym, ◌∙◌}
-use borrow.Author.Count.{falls}
 use Rattle.box_ledgers.proofs.Showing.{show-first, show-next, sum-no-nan, show-all}
 use Rattle.box_ledgers.proofs.read.Goals as goal
 
@@ -9,17 +7,14 @@ pub loop-farm-init : goal.loop-farm-init
 loop-farm-init c =
     show-first _ c.args.reading.now c.requires.1 c.show-t.ensures.value c.show-t.ensures.reading_after
 
-pub show-x-requires : goal.show-x-requires
-show-x-requires c =
+pub show-t-requires-in-loop-farm : goal.show-t-requires-in-loop-farm
+show-t-requires-in-loop-farm c =
     (c.requires.0, c.loop-farm.invariant.sized, c.loop-farm-test.true)
-
-pub loop-farm-smaller : goal.loop-farm-smaller
-loop-farm-smaller c = falls 32 c.loop-farm.farm c.loop-farm-test.true
 
 pub loop-farm-preserved : goal.loop-farm-preserved
 loop-farm-preserved c =
     show-next _ c.loop-farm.invariant c.loop-farm-test.true
-    c.show-x.ensures.value c.show-x.ensures.reading_after
+    c.show-t-in-loop-farm.ensures.value c.show-t-in-loop-farm.ensures.reading_after
 
 pub float_to_bits-t : goal.float_to_bits-t
 float_to_bits-t c = sum-no-nan _ c.loop-farm.invariant

@@ -1,25 +1,21 @@
-use Rattle.boxes.proofs.Entering.{turned-away, by-bay}
+use Rattle.std.proofs.lemmas.Result.{err_from_is_err_and}
+use Rattle.boxes.proofs.Entering.{turned-away, not-wanted, is-wanted}
+use Rattle.boxes.proofs.Calling.{cut-there}
+use mathlib.Core.Path.{ap, ◌∙◌}
+use Rattle.spec_bay.specs.Stretch.{is_empty}
 use Rattle.boxes.proofs.entry.Goals as goal
 
-pub returns-then-number-ne0 : goal.returns-then-number-ne0
-returns-then-number-ne0 c = turned-away _ _ c.args.vacant c.reach-number.ensures c.if-number-ne0.true
+pub returns-in_err-from : goal.returns-in_err-from
+returns-in_err-from c =
+    let p = err_from_is_err_and c.from_residual.result c.from_residual.ensures.1 in
+    rw (p.1, p.2) (turned-away _ _ c.args.vacant _ c.in_err-from.ensures)
 
-pub returns-then-empty : goal.returns-then-empty
-returns-then-empty c =
-    by-bay _ _ _ c.reach-number.ensures c.if-number-ne0.false c.part.ensures
-    c.is_empty-empty.ensures c.if-vacant.true c.if-empty.true
-
-pub returns-then-vacant : goal.returns-then-vacant
-returns-then-vacant c =
-    by-bay _ _ _ c.reach-number.ensures c.if-number-ne0.false c.part.ensures
-    c.is_empty-empty.ensures c.if-vacant.true c.if-empty.false
-
-pub returns-then-empty-2 : goal.returns-then-empty-2
-returns-then-empty-2 c =
-    by-bay _ _ _ c.reach-number.ensures c.if-number-ne0.false c.part.ensures
-    c.is_empty-empty.ensures c.if-vacant.false c.if-empty-2.true
+pub returns-then-is_empty-vacant : goal.returns-then-is_empty-vacant
+returns-then-is_empty-vacant c =
+    let h = c.in_ok-from.ensures in
+    not-wanted _ _ c.args.vacant h (c.is_empty.ensures ∙ ap is_empty (cut-there _ _ h.3)) c.if-is_empty-vacant.true
 
 pub returns : goal.returns
 returns c =
-    by-bay _ _ _ c.reach-number.ensures c.if-number-ne0.false c.part.ensures
-    c.is_empty-empty.ensures c.if-vacant.false c.if-empty-2.false
+    let h = c.in_ok-from.ensures in
+    is-wanted _ _ c.args.vacant h (c.is_empty.ensures ∙ ap is_empty (cut-there _ _ h.3)) c.if-is_empty-vacant.false

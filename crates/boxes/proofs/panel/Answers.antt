@@ -5,9 +5,8 @@ use Rattle.boxes.specs.Entries.{fits}
 use Rattle.boxes.proofs.Calling.{turned_down, read-call}
 use Rattle.boxes.proofs.panel.Goals as goal
 
-pub returns-then-number-ne0 : goal.returns-then-number-ne0
-returns-then-number-ne0 c = turned_down _ _ (fits false) (panel _ _) (λ s. refl) c.entry-number.ensures c.if-number-ne0.true
+pub returns-in_err-from : goal.returns-in_err-from
+returns-in_err-from c = turned_down _ _ (fits false) (panel _ _) (λ s. refl) _ _ c.from_residual.ensures.1 c.in_err-from.ensures
 
 pub returns : goal.returns
-returns c =
-    read-call _ _ (fits false) (panel _ _) (λ s. refl) c.entry-number.ensures c.if-number-ne0.false _ _ c.part.ensures c.panel.ensures
+returns c = read-call _ _ (fits false) (panel _ _) (λ s. refl) _ c.in_ok-from.ensures _ _ c.panel.ensures

@@ -128,7 +128,7 @@ loop-left-preserved-then-b-eq-LOOP t c =
     let f = c.opens-h.ensures in
     let b = c.if-b-eq-LOOP.true in
     let g = c.of_statement-body.ensures in
-    loop-done w l f b g c.greater-loops.ensures
+    loop-done w l f b g c.max-loops.ensures
 
 pub loop-left-smaller : goal.loop-left-smaller
 loop-left-smaller t c =

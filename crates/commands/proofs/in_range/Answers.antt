@@ -1,10 +1,11 @@
 use Prim.Native.Nat.{ℕ}
 use mathlib.Core.Path.{◌≡◌, refl, ap, ◌∙◌}
+use mathlib.Core.Logic.{◌⊎◌, inl, inr}
 use mathlib.Core.Option.{Option, none, some}
 use lib.Dec.{ltb}
 use native.Mathlib.Omega.{arith}
-use borrow.Author.Tests.{le-leb}
-use Rattle.spec_base.specs.Limits.{signal_count}
+use borrow.Author.Tests.{le-leb, lt-leb}
+use Rattle.spec_base.specs.Limits.{signal_count, label_count}
 use Rattle.spec_sequence.specs.Commands.{Command, command_of}
 use Rattle.theory_sequence.proofs.Table.{byte_of, byte_is, command_of_byte}
 use Rattle.commands.specs.Counts.{operand_in_range}
@@ -12,6 +13,10 @@ use Rattle.commands.proofs.in_range.Goals as goal
 
 at : {b : ℕ} (c : Command) → b ≡ byte_of c → command_of b ≡ some c
 at c e = ap command_of e ∙ command_of_byte c
+
+labels : (b x : ℕ) → (b ≡ 1) ⊎ (b ≡ 10) → ltb x label_count ≡ operand_in_range (command_of b) x
+labels b x (inl e) = rw (at Command.pause e)
+labels b x (inr e) = rw (at Command.setpause e)
 
 -- an operand that is neither an exit nor a label is a signal
 signals : (x : ℕ) (c : Command) → (byte_of c ≡ 3 → ⊥) → (byte_of c ≡ 1 → ⊥) → (byte_of c ≡ 10 → ⊥) → ltb x signal_count ≡ operand_in_range (some c) x
@@ -35,17 +40,14 @@ others b x (some c) e n3 n1 n10 =
     let z = byte_is b c e in
     signals x c (λ h. n3 (z ∙ h)) (λ h. n1 (z ∙ h)) (λ h. n10 (z ∙ h))
 
-pub returns-then-x-eq0 : goal.returns-then-x-eq0
-returns-then-x-eq0 c = rw (at Command.exit c.if-b-eq3.true, c.if-x-eq0.true)
+pub returns-in_default-matches : goal.returns-in_default-matches
+returns-in_default-matches c = let z : c.args.x ≡ 0 = omega arith in rw (at Command.exit c.in-3.is, z)
 
-pub returns-then-b-eq3 : goal.returns-then-b-eq3
-returns-then-b-eq3 c = rw (at Command.exit c.if-b-eq3.true, le-leb 1 c.args.x (omega (arith, c.if-x-eq0.false)))
+pub returns-in_default-matches-2 : goal.returns-in_default-matches-2
+returns-in_default-matches-2 c = rw (at Command.exit c.in-3.is, le-leb 1 c.args.x (omega arith), lt-leb c.args.x 15 (omega arith))
 
-pub returns-then-b-eq1 : goal.returns-then-b-eq1
-returns-then-b-eq1 c = rw (at Command.pause c.if-b-eq1.true)
+pub returns-in-1 : goal.returns-in-1
+returns-in-1 c = labels c.args.b c.args.x c.in-1.is
 
-pub returns-then-b-eq10 : goal.returns-then-b-eq10
-returns-then-b-eq10 c = rw (at Command.setpause c.if-b-eq10.true)
-
-pub returns : goal.returns
-returns c = others _ _ _ refl c.if-b-eq3.false c.if-b-eq1.false c.if-b-eq10.false
+pub returns-in_default : goal.returns-in_default
+returns-in_default c = others _ _ _ refl (λ h. grind (arith, h)) (λ h. grind (arith, h)) (λ h. grind (arith, h))

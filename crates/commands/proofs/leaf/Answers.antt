@@ -10,9 +10,7 @@ use Rattle.theory_sequence.proofs.Table.{byte_of, byte_is, command_of_byte}
 use Rattle.commands.specs.Counts.{parts_at, is_leaf}
 use Rattle.commands.proofs.Counts.{some_leaf, operand_of}
 use Rattle.spec_sequence.specs.Reader.{front}
-use Rattle.layout.specs.Layout.{rest}
 use Rattle.layout.specs.Walk.{head_of}
-use Rattle.layout.proofs.Parts.{rest-is}
 use Rattle.commands.proofs.Fronting.{short, bare, outside, one, leaf_operands}
 use Rattle.commands.proofs.leaf.Goals as goal
 
@@ -44,16 +42,6 @@ pub returns-then-s-le1 : goal.returns-then-s-le1
 returns-then-s-le1 c =
     let f = found c.args.b c.args.s.now c.requires.s_nonzero.1 c.requires.b_value in
     short c.args.s.now f.of f.byte c.requires.s_nonzero.0 (omega (arith, c.if-s-le1.true, f.some c.if-b-eq-NOTHING.false))
-
-pub delivery-requires : goal.delivery-requires
-delivery-requires c =
-    let same : (k : ℕ) → get_or (rest 0 c.args.s.now) k 0 ≡ get_or c.args.s.now k 0 = λ k. ap (λ (l : List ℕ). get_or l k 0) (rest-is 0 c.args.s.now) in
-    let long : length (rest 0 c.args.s.now) ≡ length c.args.s.now = ap length (rest-is 0 c.args.s.now) in
-    (omega (arith, long, c.requires.s_nonzero.0), same 0 ∙ sym c.requires.s_nonzero.1 ∙ c.if-b-eq-DELIVER.true)
-
-pub returns-then-b-eq-DELIVER : goal.returns-then-b-eq-DELIVER
-returns-then-b-eq-DELIVER c =
-    c.delivery.ensures ∙ ap (λ (l : List ℕ). head_of (front l)) (rest-is 0 c.args.s.now)
 
 pub returns-then-in_range : goal.returns-then-in_range
 returns-then-in_range c =

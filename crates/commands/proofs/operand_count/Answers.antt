@@ -4,12 +4,12 @@ use mathlib.Core.Option.{Option}
 use native.Mathlib.Omega.{arith}
 use Rattle.spec_sequence.specs.Commands.{Command, command_of, operandCount}
 use Rattle.theory_sequence.proofs.Table.{between, above}
-use Rattle.commands.specs.declared.Count.TheVariants.{Of}
+use Rattle.std.specs.Prelude.{Some}
 use Rattle.commands.specs.Counts.{counted, operands_at, count_of}
 use Rattle.commands.proofs.operand_count.Goals as goal
 
 abbrev Counts : ℕ → ℕ → Type 0
-Counts n b = Of n ≡ count_of (operands_at b)
+Counts n b = Some n ≡ count_of (operands_at b)
 
 pub returns-then-b-eq0 : goal.returns-then-b-eq0
 unfolding command_of

@@ -1,10 +1,11 @@
 use Rattle.spec_base.specs.Limits.{label_count, word_labels}
-use mathlib.Core.Path.{sym}
+use mathlib.Core.Path.{sym, ◌∙◌}
 use Rattle.spec_base.specs.Sets.{member}
 use Rattle.sets.proofs.Members.{member-high}
 use Rattle.sets.proofs.Words.{words-lt, member-low, member-from}
 use Rattle.labels.specs.Labels.{label_set}
 use borrow.Author.Rules.{rules}
+use borrow.Author.Tests.{le-ltb}
 use Rattle.labels.proofs.member.Goals as goal
 
 pub returns-then-i-lt-WORD_LABELS : goal.returns-then-i-lt-WORD_LABELS
@@ -17,4 +18,6 @@ returns-then-i-lt-LABELS c = member-from word_labels _ _ (search rules) _ c.if-i
 
 pub returns-else-i-lt-LABELS : goal.returns-else-i-lt-LABELS
 unfolding label_set
-returns-else-i-lt-LABELS c = sym (member-high {w = label_count} _ (words-lt word_labels _ _ (search rules) word_labels (search rules)) c.if-i-lt-LABELS.false)
+returns-else-i-lt-LABELS c =
+    le-ltb c.args.i label_count c.if-i-lt-LABELS.false
+    ∙ sym (member-high {w = label_count} _ (words-lt word_labels _ _ (search rules) word_labels (search rules)) c.if-i-lt-LABELS.false)

@@ -3,7 +3,7 @@ use Prim.Native.Nat.{◌+◌, ◌≤◌, ◌<◌}
 use native.Mathlib.Nat.{mod-lt}
 use native.Mathlib.Omega.{arith}
 use mathlib.Core.Path.{refl}
-use lib.ListN.{length, length-set}
+use lib.ListN.{length-set}
 use Rattle.spec_programs.specs.Text.{numeral}
 use Rattle.lines.proofs.Buffers.{begin, under}
 use Rattle.lines.proofs.Numerals.{measure_falls, numeral_room, numeral-again, numeral_end}
@@ -37,7 +37,7 @@ pub loop-left-smaller : goal.loop-left-smaller
 loop-left-smaller c =
     let l = c.loop-left in
     let m : 0 < l.left + l.rest = elim c.if-left-gt0.branch [ then-left-gt0 w ↦ omega (arith, w.if-left-gt0.true) | else-left-gt0+then-rest-gt0 w ↦ omega (arith, w.if-rest-gt0.true) ] in
-    omega (arith, c.one_less-left.ensures, measure_falls c.args.base l.left l.rest c.requires.0 m)
+    omega (arith, c.saturating_sub-left.ensures, measure_falls c.args.base l.left l.rest c.requires.0 m)
 
 pub loop-left-preserved : goal.loop-left-preserved
 loop-left-preserved c =
@@ -47,7 +47,7 @@ loop-left-preserved c =
     let s : (0 < l.from) × (l.from ≤ c.args.end) = (numeral_room c.args.base l.left l.rest p.0 m l.invariant.1 p.2, under l.invariant.1) in
     let a = c.args in (
       simp length-set l.invariant.0,
-      rw (c.one_less-left.ensures, c.digit.ensures) (numeral-again a.base l.left l.rest c.requires.0 m l.invariant.1 s.0 (omega arith)),
+      rw (c.saturating_sub-left.ensures, c.digit.ensures) (numeral-again a.base l.left l.rest c.requires.0 m l.invariant.1 s.0 (omega arith)),
     )
 
 pub shape_of-line : goal.shape_of-line

@@ -3,4 +3,4 @@ use Rattle.notes.proofs.signal.Goals as goal
 
 pub returns : goal.returns
 unfolding note_signals
-returns c = rw c.greater.ensures
+returns c = rw (c.max.ensures, c.from.ensures)

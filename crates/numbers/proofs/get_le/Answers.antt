@@ -1,15 +1,11 @@
-use native.Mathlib.Omega.{arith}
-use Rattle.numbers.proofs.Parts.{part-fits, part-number, part-bound}
+use Rattle.std.proofs.Common.{◌≤◌, ◌^◌, length, ap, ◌∙◌, arith}
+use Rattle.std.proofs.Math.Nat.{pow-le-pow_right}
+use lib.ListN.{length-take}
 use Rattle.numbers.proofs.get_le.Goals as goal
 
-pub read_le-requires : goal.read_le-requires
-read_le-requires c =
-    let a = c.args in
-    let f = part-fits a.b.now c.part-bytes.result.now a.at a.n c.at_most_8.result c.at_most_8.ensures c.part-bytes.ensures in
-    (f.0, omega arith)
-
-pub returns : goal.returns
-returns c =
-    let a = c.args in
-    let m = c.at_most_8 in
-    let p = c.part-bytes in record { value = part-number a.b.now p.result.now a.at a.n m.result m.ensures p.ensures c.read_le.result c.read_le.ensures.value; upper_bound = part-bound a.b.now p.result.now a.at a.n m.result m.ensures p.ensures c.read_le.result c.read_le.ensures.upper_bound }
+pub returns-clause-upper_bound : goal.returns-clause-upper_bound
+returns-clause-upper_bound c =
+    let n = ap length c.part-bytes.ensures ∙ length-take _ _ in
+    let q : 256 ^ length c.part-bytes.result.now ≤ 256 ^ c.args.n =
+    pow-le-pow_right {n = 256} (omega arith) {i = length c.part-bytes.result.now} {j = c.args.n} (omega (arith, n, c.min.ensures)) in
+    omega (arith, q, c.read_le.ensures.upper_bound)

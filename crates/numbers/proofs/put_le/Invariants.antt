@@ -1,12 +1,10 @@
-use Prim.Native.Nat.{◌+◌}
-use mathlib.Core.Path.{◌≡◌}
-use lib.ListN.{length}
-use lib.Seq.{sets}
+use Rattle.std.proofs.Common.{◌≡◌, ◌-◌, length}
+use Rattle.std.proofs.lemmas.List.Edits.{sets}
 use Rattle.spec_base.specs.Bytes.{le_bytes}
 use Rattle.numbers.proofs.put_le.Given as goal
 
-abbrev pub invariant-loop-left : goal.invariant-loop-left
-invariant-loop-left l = (sets l.buf l.i (le_bytes l.left l.rest) ≡ sets l.initial.buf l.at (le_bytes l.n l.x)) × (length l.buf ≡ length l.initial.buf) × (l.i + l.left ≡ l.at + l.n)
-
-abbrev pub decreases-loop-left : goal.decreases-loop-left
-decreases-loop-left l = l.left
+abbrev pub invariant-loop-byte : goal.invariant-loop-byte
+invariant-loop-byte l = record {
+  goes_on : sets l.byte-items l.byte-index (le_bytes (l.n - l.byte-index) l.rest) ≡ sets l.initial.byte-items 0 (le_bytes l.n l.x);
+  whole : length l.byte-items ≡ l.n;
+}

@@ -8,7 +8,7 @@ returns-then-is_wrong c =
     wrong-instant a.second.now a.s.now a.origin a.input a.read_back c.requires.litres_value c.react-r.ensures c.is_wrong.ensures
     c.if-is_wrong.true refl
 
-pub returns : goal.returns
-returns c =
+pub returns-else-is_wrong : goal.returns-else-is_wrong
+returns-else-is_wrong c =
     let a = c.args in
     right-instant a.second.now a.s.now a.origin a.input a.read_back c.requires.litres_value c.react-r.ensures c.is_wrong.ensures c.if-is_wrong.false

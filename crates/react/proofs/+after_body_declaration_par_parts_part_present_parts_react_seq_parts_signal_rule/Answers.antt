@@ -2,7 +2,7 @@ use mathlib.Core.Path.{sym, ◌∙◌}
 use native.Mathlib.Omega.{arith}
 use lib.ListN.{get_or}
 use borrow.Author.Rules.{rules}
-use borrow.Author.Tests.{eqb-true, ltb-true}
+use borrow.Author.Tests.{ltb-true}
 use Rattle.spec_base.specs.Limits.{signal_count}
 use Rattle.spec_language.specs.Statement.{local, seq, par, loop, present, signal, try, suspend}
 use Rattle.theory_language.specs.Traced.{start_traced}
@@ -34,10 +34,9 @@ par_parts-returns t c base p l f =
     here f (par y.0 y.1) p _ y.2.0
     (par-step _ _ y.0 y.1 (c.part-p.ensures base y.0 y.2.1.first f) (c.part-q.ensures _ y.1 y.2.1.second f) c.in_parallel.ensures)
 
-pub part-returns-then-is_nothing : goal.part-returns-then-is_nothing
-part-returns-then-is_nothing t c base p l f =
-    let b = eqb-true _ _ (sym c.is_nothing.ensures ∙ c.if-is_nothing.true) in
-    nothing-step f p _ _ _ (taken-apart c.requires.ready base p l Command.nothing (front-is c.args.n c.args.s.now b)).parts c.nothing.ensures
+pub part-returns-then-s-n-eq-NOTHING : goal.part-returns-then-s-n-eq-NOTHING
+part-returns-then-s-n-eq-NOTHING t c base p l f =
+    nothing-step f p _ _ _ (taken-apart c.requires.ready base p l Command.nothing (front-is c.args.n c.args.s.now c.if-s-n-eq-NOTHING.true)).parts c.nothing.ensures
 
 pub present_parts-bounds-s-1 : goal.present_parts-bounds-s-1
 present_parts-bounds-s-1 t c = (begins c.requires.0 Command.present c.requires.1).there

@@ -1,6 +1,6 @@
-use Prim.Native.Nat.{◌+◌, ◌*◌, ◌/◌, ◌≤◌}
+use Prim.Native.Nat.{◌+◌, ◌/◌}
 use mathlib.Core.Path.{◌≡◌}
-use lib.ListN.{length, drop}
+use lib.ListN.{length}
 use Rattle.spec_language.specs.Machines.{State}
 use Rattle.checks.specs.Verdict.{Passed}
 use Rattle.spec_tick.specs.StateRecord.{encode_state}
@@ -9,12 +9,11 @@ use Rattle.spec_replay.specs.Replay.{place_of}
 use Rattle.replay_call.specs.Following.{Holds, place_from}
 use Rattle.replay_call.proofs.first_difference.Given as goal
 
-abbrev pub invariant-loop-left : goal.invariant-loop-left
-invariant-loop-left l =
+-- what the chunks have left gives the place
+abbrev pub invariant-loop-i : goal.invariant-loop-i
+invariant-loop-i l =
+    let chunks = l.i-iterator.iter in
     ((h : Passed l.sequence l.read_back l.second l.notes) × ((s : State) × Holds h.p s l.standing
-    × (place_from l.sequence l.read_back l.place l.number (encode_state s) l.left (drop l.at l.recording) ≡ place_of l.sequence l.read_back l.recording)))
-    × (l.place + l.left ≡ 1 + length l.recording / recordLength) × (l.at + l.left * recordLength ≤ length l.recording)
-
-abbrev pub decreases-loop-left : goal.decreases-loop-left
-decreases-loop-left l =
-    l.left
+    × (place_from l.sequence l.read_back (l.i-iterator.count + 1) l.number (encode_state s) (length chunks.rest.now / recordLength) chunks.rest.now
+    ≡ place_of l.sequence l.read_back l.recording)))
+    × (chunks.size ≡ recordLength)

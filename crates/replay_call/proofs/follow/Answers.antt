@@ -1,22 +1,25 @@
+use mathlib.Core.Path.{sym, ◌∙◌}
 use Rattle.checks.proofs.Passing.{as-ready}
 use Rattle.replay_call.proofs.Following.{start-replies, comparable, refused-differs, compared-follows}
 use Rattle.replay_call.proofs.follow.Goals as goal
 
-pub react_without_litres-requires : goal.react_without_litres-requires
-react_without_litres-requires c = as-ready c.requires.0
+pub react_without_litres-r-requires : goal.react_without_litres-r-requires
+react_without_litres-r-requires c = as-ready c.requires.0
 
 pub compare-requires : goal.compare-requires
 compare-requires c =
     let (h, (s, k)) = c.requires in
-    comparable _ _ h s _ k _ _ (start-replies _ _ h s _ k c.in-From.start c.in-From.is _ _ (c.react_without_litres.ensures h.p h.known.lies))
+    let e = sym c.ok.ensures.value ∙ c.in_ok-ok.was in
+    comparable _ _ h s _ k _ _ (start-replies _ _ h s _ k _ e _ _ (c.react_without_litres-r.ensures h.p h.known.lies))
 
-pub returns-in-Refused : goal.returns-in-Refused
-returns-in-Refused c h s k =
+pub returns-in_err-ok : goal.returns-in_err-ok
+returns-in_err-ok c h s k =
     let a = c.args in
-    refused-differs _ _ h s _ k a.number a.trace.now _ c.in-Refused.is
+    rw c.from_residual.ensures (refused-differs _ _ h s _ k a.number a.trace.now (sym c.ok.ensures.value ∙ c.in_err-ok.was))
 
-pub returns-in-From : goal.returns-in-From
-returns-in-From c h s k =
+pub returns : goal.returns
+returns c h s k =
     let a = c.args in
+    let e = sym c.ok.ensures.value ∙ c.in_ok-ok.was in
     compared-follows _ _ h s _ k a.number a.trace.now _ c.input-input.ensures _
-    (start-replies _ _ h s _ k c.in-From.start c.in-From.is _ _ (c.react_without_litres.ensures h.p h.known.lies)) c.compare.result c.compare.ensures
+    (start-replies _ _ h s _ k _ e _ _ (c.react_without_litres-r.ensures h.p h.known.lies)) c.compare.result c.compare.ensures

@@ -1,31 +1,16 @@
-use Prim.Native.Nat.{◌-◌}
-use native.Mathlib.Omega.{arith}
-use mathlib.Core.Path.{refl}
-use borrow.Author.Rules.{rules}
-use Rattle.spec_replay.specs.Replay.{same}
-use Rattle.replay_call.proofs.Bytes.{other_length, same_differs, same_step, same_end}
+use mathlib.Core.Path.{ap, ◌∙◌}
+use lib.ListN.{length}
+use borrow.Author.Tests.{ne_eqb}
+use Rattle.std.proofs.Common.{rules, tests}
+use Rattle.std.proofs.lemmas.Iterator.{YieldsList-from_slice, YieldsList-from_zip, same_from_all}
+use Rattle.replay_call.proofs.Bytes.{same_apart, same_decided}
 use Rattle.replay_call.proofs.same.Goals as goal
 
-pub returns-then-b-n : goal.returns-then-b-n
-returns-then-b-n c = other_length _ _ c.if-b-n.true
+pub returns-then-a-b : goal.returns-then-a-b
+returns-then-a-b c =
+    same_decided _ _ _
+    (same_from_all c.all.new.self _ _ _ _ c.all.ensures.ran (YieldsList-from_zip (YieldsList-from_slice c.args.a.now cc) (YieldsList-from_slice c.args.b.now cc))
+    (search rules) (λ x q k. search (rules, tests)) (λ x q k. search (rules, tests)))
 
-pub loop-i-init : goal.loop-i-init
-loop-i-init c = (refl, omega arith)
-
-pub returns-then-a-i : goal.returns-then-a-i
-returns-then-a-i c =
-    let a = c.args in
-    let l = c.loop-i in
-    same_differs a.a.now a.b.now l.i (search rules) (omega arith) c.if-a-i.true l.invariant.0
-
-pub loop-i-preserved : goal.loop-i-preserved
-loop-i-preserved c =
-    let a = c.args in
-    let l = c.loop-i in
-    (same_step a.a.now a.b.now l.i (search rules) (omega arith) c.if-a-i.false l.invariant.0, omega arith)
-
-pub returns : goal.returns
-returns c =
-    let a = c.args in
-    let l = c.loop-i in
-    same_end a.a.now a.b.now l.i (search rules) (omega arith) l.invariant.0
+pub returns-else-a-b : goal.returns-else-a-b
+returns-else-a-b c = ne_eqb _ _ c.if-a-b.false ∙ same_apart _ _ (λ e. c.if-a-b.false (ap length e))

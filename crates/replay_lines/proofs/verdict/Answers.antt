@@ -1,37 +1,29 @@
-use mathlib.Core.Path.{subst}
-use borrow.Author.Rules.{rules}
+use mathlib.Core.Path.{refl, subst}
 use Rattle.lines.specs.Shown.{Displays}
-use Rattle.replay_lines.proofs.Verdicts.{too_long, ended_early, refused, accepted, differs}
+use Rattle.replay_lines.proofs.Verdicts.{cut_file, refused, accepted, differs}
 use Rattle.replay_lines.proofs.verdict.Goals as goal
 
 pub returns-then-n-gt-MAX_FILE : goal.returns-then-n-gt-MAX_FILE
-returns-then-n-gt-MAX_FILE c = subst (Displays _) (too_long c.args.file.now c.if-n-gt-MAX_FILE.true) c.cut.ensures
+returns-then-n-gt-MAX_FILE c =
+    subst (Displays _) (cut_file c.args.file.now _ c.inputs_begin-at.ensures.value c.then-n-gt-MAX_FILE.either) c.cut.ensures
 
-pub returns-then-n-at : goal.returns-then-n-at
-returns-then-n-at c =
-    let i = c.inputs_begin-at in
-    subst (Displays _) (ended_early c.args.file.now c.if-n-gt-MAX_FILE.false i.result i.ensures.value c.if-n-at.true) c.cut-then-n-at.ensures
-
-pub returns-then-number-ne0 : goal.returns-then-number-ne0
-returns-then-number-ne0 c =
-    let i = c.inputs_begin-at in
+pub returns-in-Err : goal.returns-in-Err
+returns-in-Err c =
     subst (Displays _)
-    (refused c.args.file.now c.if-n-gt-MAX_FILE.false i.result i.ensures.value c.if-n-at.false _ _ _ c.part-recording.ensures c.sequence.ensures c.read_back-read_back.ensures _ _ c.replay-number.ensures
-    c.if-number-ne0.true)
-    c.refusal.ensures
+    (refused c.args.file.now _ c.inputs_begin-at.ensures.value c.if-n-gt-MAX_FILE.false c.if-n-at.false _ _ _ refl c.sequence.ensures c.read_back.ensures
+    c.in-Err.refusal c.in-Err.ensures)
+    (rw (← c.row_number.ensures) c.refusal.ensures)
 
-pub returns-then-place-eq0 : goal.returns-then-place-eq0
-returns-then-place-eq0 c =
-    let i = c.inputs_begin-at in
+pub returns-in-Ok-eq0 : goal.returns-in-Ok-eq0
+returns-in-Ok-eq0 c =
     subst (Displays _)
-    (accepted c.args.file.now c.if-n-gt-MAX_FILE.false i.result i.ensures.value c.if-n-at.false _ _ _ c.part-recording.ensures c.sequence.ensures c.read_back-read_back.ensures _ _ c.replay-number.ensures
-    c.if-number-ne0.false c.if-place-eq0.true)
+    (accepted c.args.file.now _ c.inputs_begin-at.ensures.value c.if-n-gt-MAX_FILE.false c.if-n-at.false _ _ _ refl c.sequence.ensures c.read_back.ensures
+    c.in-Ok-eq0.field-0-test c.in-Ok-eq0.ensures)
     c.numbered.ensures
 
-pub returns : goal.returns
-returns c =
-    let i = c.inputs_begin-at in
+pub returns-in-Ok : goal.returns-in-Ok
+returns-in-Ok c =
     subst (Displays _)
-    (differs c.args.file.now c.if-n-gt-MAX_FILE.false i.result i.ensures.value c.if-n-at.false _ _ _ c.part-recording.ensures c.sequence.ensures c.read_back-read_back.ensures _ _ c.replay-number.ensures
-    c.if-number-ne0.false c.if-place-eq0.false)
-    c.numbered-2.ensures
+    (differs c.args.file.now _ c.inputs_begin-at.ensures.value c.if-n-gt-MAX_FILE.false c.if-n-at.false _ _ _ refl c.sequence.ensures c.read_back.ensures
+    c.in-Ok.place-test.1 c.in-Ok.ensures)
+    c.numbered-in-Ok.ensures

@@ -2,7 +2,7 @@ use mathlib.Core.Path.{refl, sym, ◌∙◌}
 use native.Mathlib.Omega.{arith}
 use lib.ListN.{get_or}
 use borrow.Author.Rules.{rules}
-use borrow.Author.Tests.{eqb-true, ltb-true}
+use borrow.Author.Tests.{ltb-true}
 use Rattle.spec_base.specs.Limits.{signal_count}
 use Rattle.spec_language.specs.Statement.{local, nothing, seq, par, present, signal, try, suspend}
 use Rattle.spec_sequence.specs.Commands.{Command}
@@ -29,6 +29,7 @@ use Rattle.resume.proofs.Steps.{
   pause_step,
 }
 use Rattle.resume.proofs.+body_declaration_par_parts_part_present_parts_resume_seq_parts_side_signal_rule_suspend_part.Goals as goal
+use Rattle.resume.proofs.+body_declaration_par_parts_part_present_parts_resume_seq_parts_side_signal_rule_suspend_part.Goals.{side-then-is_empty-via-then-is_empty, side-then-is_empty-via-else-is_empty+then-s-n-eq-PAUSE}
 
 pub declaration-returns : goal.declaration-returns
 declaration-returns t c base p l = c.signal_rule.ensures base p (whole_lies _ _ _ _ _ p l)
@@ -54,10 +55,9 @@ par_parts-returns t c base p l f =
     here f base _ _ (par y.0 y.1) p y.2.0
     (par-step _ base _ _ y.0 y.1 _ _ y.2.1.before c.below-first.ensures _ c.from-others.ensures (c.side-p.ensures base y.0 y.2.1.first f) (c.side-q.ensures _ y.1 y.2.1.second f) c.in_parallel.ensures)
 
-pub part-returns-then-is_pause : goal.part-returns-then-is_pause
-part-returns-then-is_pause t c base p l f =
-    let b = eqb-true _ _ (sym c.is_pause.ensures ∙ c.if-is_pause.true) in
-    pause_step _ _ base _ _ p _ _ _ l (front-is c.args.n c.args.s.now b) (nothing-step f nothing _ _ _ refl c.nothing.ensures)
+pub part-returns-then-s-n-eq-PAUSE : goal.part-returns-then-s-n-eq-PAUSE
+part-returns-then-s-n-eq-PAUSE t c base p l f =
+    pause_step _ _ base _ _ p _ _ _ l (front-is c.args.n c.args.s.now c.if-s-n-eq-PAUSE.true) (nothing-step f nothing _ _ _ refl c.nothing.ensures)
 
 pub present_parts-overflow_sub-pauses : goal.present_parts-overflow_sub-pauses
 present_parts-overflow_sub-pauses t c = omega (arith, (begins c.requires.0 Command.present c.requires.1).parts.2.1.behind)
@@ -145,13 +145,14 @@ seq_parts-returns t c base p l f =
     (seq_first _ base _ _ y.0 y.1 _ _ y.2.1.before c.below-first.ensures (sym c.is_empty.ensures ∙ c.if-is_empty.false) (c.part-p.ensures base y.0 y.2.1.first f) (λ i w h. c.after.ensures _ y.1 y.2.1.second f i w h))
 
 pub side-returns-then-is_empty : goal.side-returns-then-is_empty
-side-returns-then-is_empty t c base p l f = side-ended _ base _ _ p (sym c.is_empty.ensures ∙ c.if-is_empty.true) (nothing-step f nothing _ _ _ refl c.nothing.ensures)
-
-pub side-returns-then-is_pause : goal.side-returns-then-is_pause
-side-returns-then-is_pause t c base p l f =
-    let b = eqb-true _ _ (sym c.is_pause.ensures ∙ c.if-is_pause.true) in
-    side-active _ base _ _ p (sym c.is_empty.ensures ∙ c.if-is_empty.false)
-    (pause_step _ _ base _ _ p _ _ _ l (front-is c.args.n c.args.s.now b) (nothing-step f nothing _ _ _ refl c.nothing-then-is_pause.ensures))
+side-returns-then-is_empty t c base p l f =
+    let n = nothing-step f nothing _ _ _ refl c.nothing.ensures in
+    elim c.then-is_empty.branch [
+      | side-then-is_empty-via-then-is_empty w ↦ side-ended _ base _ _ p (sym c.is_empty.ensures ∙ w.if-is_empty.true) n
+      | side-then-is_empty-via-else-is_empty+then-s-n-eq-PAUSE w ↦
+          side-active _ base _ _ p (sym c.is_empty.ensures ∙ w.if-is_empty.false)
+          (pause_step _ _ base _ _ p _ _ _ l (front-is c.args.n c.args.s.now w.if-s-n-eq-PAUSE.true) n)
+    ]
 
 pub side-returns : goal.side-returns
 side-returns t c base p l f = side-active _ base _ _ p (sym c.is_empty.ensures ∙ c.if-is_empty.false) (c.resume.ensures base p l f)
@@ -236,4 +237,4 @@ suspend_part-returns-else-member t c base p l f =
     let q = y.parts.0 in
     here f base _ _ (suspend _ q) p y.parts.1.0
     (suspend-resumed _ base _ _ _ q (sym c.member.ensures ∙ c.if-member.false)
-    (c.part.ensures base q y.parts.1.1 f) (c.in_held.ensures _ (single_is _ (ltb-true _ _ y.ranged) c.single-absent.ensures)))
+    (c.part.ensures base q y.parts.1.1 f) (c.in_held.ensures _ (single_is _ (ltb-true _ _ y.ranged) c.single.ensures)))

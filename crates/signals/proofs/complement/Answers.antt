@@ -1,6 +1,6 @@
-use Rattle.spec_base.specs.Widths.{all_below}
+use borrow.Author.Rules.{rules}
+use Rattle.sets.proofs.Masks.{all_others}
 use Rattle.signals.proofs.complement.Goals as goal
 
 pub returns : goal.returns
-unfolding all_below
-returns c = c.difference.ensures
+returns c = all_others 32 c.args.s (search rules)

@@ -1,5 +1,7 @@
-use mathlib.Core.Path.{refl, sym}
+use mathlib.Core.Path.{refl, sym, ◌∙◌}
 use borrow.Author.Rules.{rules}
+use borrow.Author.Tests.{le-ltb}
+use Rattle.spec_base.specs.Limits.{signal_count}
 use Rattle.spec_base.specs.Sets.{member}
 use Rattle.sets.proofs.Members.{member-high}
 use Rattle.signals.proofs.member.Goals as goal
@@ -9,4 +11,5 @@ unfolding member
 returns-then-i-lt-SIGNALS c = refl
 
 pub returns-else-i-lt-SIGNALS : goal.returns-else-i-lt-SIGNALS
-returns-else-i-lt-SIGNALS c = sym (member-high {w = 32} _ (search rules) (search rules))
+returns-else-i-lt-SIGNALS c =
+    le-ltb c.args.i signal_count c.if-i-lt-SIGNALS.false ∙ sym (member-high {w = 32} _ (search rules) (search rules))

@@ -1,17 +1,25 @@
-use Rattle.unroll_call.proofs.Deciding.{other_length, turned_down, starts, plain, with_setpause}
+use mathlib.Core.Path.{ap}
+use Rattle.std.proofs.lemmas.Result.{err_from_is_err_and}
+use Rattle.limits.specs.Rows.{call_number}
+use Rattle.checks.proofs.Passing.{passed, as-ready}
+use Rattle.unroll_call.proofs.Deciding.{other_length, refused, plain, with_setpause}
 use Rattle.unroll_call.proofs.unroll.Goals as goal
 
 pub returns-then-buffer-ne-MAX_BYTES : goal.returns-then-buffer-ne-MAX_BYTES
-returns-then-buffer-ne-MAX_BYTES c = other_length _ _ _ c.if-buffer-ne-MAX_BYTES.true c.refused.ensures
+returns-then-buffer-ne-MAX_BYTES c = other_length _ _ _ c.if-buffer-ne-MAX_BYTES.true
 
-pub returns-then-row-ne0 : goal.returns-then-row-ne0
-returns-then-row-ne0 c = turned_down _ _ _ c.check-row.ensures c.if-buffer-ne-MAX_BYTES.false c.if-row-ne0.true c.refused-then-row-ne0.ensures
+pub returns-in_err-check : goal.returns-in_err-check
+returns-in_err-check c =
+    let p = err_from_is_err_and c.from_residual.result c.from_residual.ensures.1 in
+    rw (p.1, p.2) (refused _ _ _ c.check.ensures c.if-buffer-ne-MAX_BYTES.false _ (ap call_number c.in_err-check.was))
+
+pub returns-then-not-is_empty : goal.returns-then-not-is_empty
+returns-then-not-is_empty c = with_setpause _ _ _ c.check.ensures c.if-buffer-ne-MAX_BYTES.false (ap call_number c.in_ok-check.was) c.setpauses-setpauses.ensures c.is_empty.ensures c.if-not-is_empty.true
 
 pub of_plain-requires : goal.of_plain-requires
-of_plain-requires c = record { ready = starts _ _ c.check-row.ensures c.if-row-ne0.false; buffer_len = c.if-buffer-ne-MAX_BYTES.false }
-
-pub returns-then-is_empty : goal.returns-then-is_empty
-returns-then-is_empty c = plain _ _ _ c.check-row.ensures c.if-buffer-ne-MAX_BYTES.false c.if-row-ne0.false c.setpauses-setpauses.ensures c.is_empty.ensures c.if-is_empty.true c.of_plain.ensures
+of_plain-requires c = record { ready = as-ready (passed _ _ _ _ _ c.check.ensures (ap call_number c.in_ok-check.was)); buffer_len = c.if-buffer-ne-MAX_BYTES.false }
 
 pub returns : goal.returns
-returns c = with_setpause _ _ _ c.check-row.ensures c.if-buffer-ne-MAX_BYTES.false c.if-row-ne0.false c.setpauses-setpauses.ensures c.is_empty.ensures c.if-is_empty.false c.refused-2.ensures
+returns c =
+    plain _ _ _ c.check.ensures c.if-buffer-ne-MAX_BYTES.false (ap call_number c.in_ok-check.was) c.setpauses-setpauses.ensures c.is_empty.ensures _
+    c.if-not-is_empty.false c.of_plain.ensures

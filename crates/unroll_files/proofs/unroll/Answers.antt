@@ -1,7 +1,9 @@
 use Prim.Native.Nat.{ℕ}
 use mathlib.Core.List.{List}
 use mathlib.Core.Path.{sym, ap₂, ◌∙◌}
+use Rattle.std.proofs.lemmas.Result.{err_from_is_err_and}
 use Rattle.spec_unroll.specs.Call.{unroll_of}
+use Rattle.limits.proofs.Refusals.{row_not_0}
 use Rattle.unroll_files.proofs.Outputs.{cut-output, written-output, refused-output}
 use Rattle.unroll_files.proofs.unroll.Goals as goal
 
@@ -10,16 +12,16 @@ returns-then-not-is_whole c =
     let a = c.args in
     cut-output a.file.now a.buffer.now (sym c.is_whole.ensures ∙ c.if-not-is_whole.true)
 
-pub returns-then-w-eq0 : goal.returns-then-w-eq0
-returns-then-w-eq0 c =
+pub returns-in_err-unroll : goal.returns-in_err-unroll
+returns-in_err-unroll c =
     let a = c.args in
-    let w = c.is_whole in
-    let e = c.unroll-w.ensures ∙ ap₂ (λ (s : List ℕ) (r : ℕ). unroll_of s r a.buffer.now) c.sequence.ensures c.read_back-read_back.ensures in
-    written-output a.file.now a.buffer.now (sym w.ensures ∙ c.if-not-is_whole.false) e c.if-w-eq0.true
+    let p = err_from_is_err_and c.from_residual.result c.from_residual.ensures.1 in
+    rw (p.1, p.2)
+    (refused-output a.file.now a.buffer.now (sym c.is_whole.ensures ∙ c.if-not-is_whole.false)
+    (c.in_err-unroll.ensures ∙ ap₂ (λ (s : List ℕ) (r : ℕ). unroll_of s r a.buffer.now) c.sequence.ensures c.read_back.ensures) (row_not_0 _))
 
 pub returns : goal.returns
 returns c =
     let a = c.args in
-    let w = c.is_whole in
-    let e = c.unroll-w.ensures ∙ ap₂ (λ (s : List ℕ) (r : ℕ). unroll_of s r a.buffer.now) c.sequence.ensures c.read_back-read_back.ensures in
-    refused-output a.file.now a.buffer.now (sym w.ensures ∙ c.if-not-is_whole.false) e c.if-w-eq0.false
+    written-output a.file.now a.buffer.now (sym c.is_whole.ensures ∙ c.if-not-is_whole.false)
+    (c.in_ok-unroll.ensures ∙ ap₂ (λ (s : List ℕ) (r : ℕ). unroll_of s r a.buffer.now) c.sequence.ensures c.read_back.ensures)

@@ -1,4 +1,5 @@
-use mathlib.Core.Path.{refl, sym, ◌∙◌}
+use mathlib.Core.Path.{sym, ◌∙◌}
+use mathlib.Core.Bool.{true≢false}
 use native.Mathlib.Omega.{arith}
 use borrow.Author.Rules.{rules}
 use Rattle.layout.proofs.Laid.{first-ready, second-ready}
@@ -6,6 +7,7 @@ use Rattle.commands.proofs.Shapes.{found, there, one-ready, two_ready}
 use Rattle.validity.proofs.Steps.{second-only, first-only, both-active, both-parts, both, neither, leaf_step, one-step, two-step, whole_pair, whole_two}
 use Rattle.validity.proofs.Single.{single_step}
 use Rattle.validity.proofs.+compatible_compatible_part_compatible_parts.Goals as goal
+use Rattle.validity.proofs.+compatible_compatible_part_compatible_parts.Goals.{compatible_parts-then-parallel, compatible_parts-else-parallel}
 
 pub compatible-overflow_add-at : goal.compatible-overflow_add-at
 compatible-overflow_add-at t c = let r = c.requires in omega (arith, r.fits, there r (found r c.shape_of.ensures c.in-One.is))
@@ -82,16 +84,11 @@ compatible_parts-returns-then-is_empty-2 t c base p q l =
     first-only base _ p q c.args.parallel _ _ _ l.before c.below-p.ensures c.from-q.ensures (sym c.is_empty.ensures ∙ c.if-is_empty.false)
     (sym c.is_empty-2.ensures ∙ c.if-is_empty-2.true) (c.compatible_part-then-is_empty-2.ensures _ p l.first)
 
-pub compatible_parts-returns-then-not-parallel : goal.compatible_parts-returns-then-not-parallel
-compatible_parts-returns-then-not-parallel t c base p q l =
-    both-active base _ p q c.args.parallel _ _ _ l.before c.below-p.ensures c.from-q.ensures (sym c.is_empty.ensures ∙ c.if-is_empty.false)
-    (sym c.is_empty-2.ensures ∙ c.if-is_empty-2.false) c.if-not-parallel.true refl
+pub compatible_parts-overflow_sub-depth-then-parallel : goal.compatible_parts-overflow_sub-depth-then-parallel
+compatible_parts-overflow_sub-depth-then-parallel t c = omega (arith, (first-ready c.requires).levels)
 
-pub compatible_parts-overflow_sub-depth-2 : goal.compatible_parts-overflow_sub-depth-2
-compatible_parts-overflow_sub-depth-2 t c = omega (arith, (first-ready c.requires).levels)
-
-pub compatible_parts-compatible_part-requires-2 : goal.compatible_parts-compatible_part-requires-2
-compatible_parts-compatible_part-requires-2 t c = (omega (arith, (first-ready c.requires).levels), (c.requires.there, first-ready c.requires))
+pub compatible_parts-compatible_part-requires-then-parallel : goal.compatible_parts-compatible_part-requires-then-parallel
+compatible_parts-compatible_part-requires-then-parallel t c = (omega (arith, (first-ready c.requires).levels), (c.requires.there, first-ready c.requires))
 
 pub compatible_parts-overflow_sub-depth-then-compatible_part : goal.compatible_parts-overflow_sub-depth-then-compatible_part
 compatible_parts-overflow_sub-depth-then-compatible_part t c = omega (arith, (first-ready c.requires).levels)
@@ -101,12 +98,22 @@ compatible_parts-compatible_part-requires-then-compatible_part t c = (omega (ari
 
 pub compatible_parts-returns-then-compatible_part : goal.compatible_parts-returns-then-compatible_part
 compatible_parts-returns-then-compatible_part t c base p q l =
-    both-parts base _ p q c.args.parallel _ _ _ l.before c.below-p.ensures c.from-q.ensures (sym c.is_empty.ensures ∙ c.if-is_empty.false)
-    (sym c.is_empty-2.ensures ∙ c.if-is_empty-2.false) c.if-not-parallel.false
-    (both (sym (c.compatible_part-2.ensures _ p l.first) ∙ c.if-compatible_part.true) (c.compatible_part-then-compatible_part.ensures _ q l.second))
+    elim c.if-parallel.branch [
+      | compatible_parts-then-parallel w ↦
+          both-parts base _ p q c.args.parallel _ _ _ l.before c.below-p.ensures c.from-q.ensures (sym c.is_empty.ensures ∙ c.if-is_empty.false)
+          (sym c.is_empty-2.ensures ∙ c.if-is_empty-2.false) w.if-parallel.true
+          (both (sym (w.compatible_part-then-parallel.ensures _ p l.first) ∙ sym w.value-is ∙ c.if-compatible_part.true) (c.compatible_part-then-compatible_part.ensures _ q l.second))
+      | compatible_parts-else-parallel w ↦ absurd (true≢false (sym c.if-compatible_part.true ∙ w.value-is ∙ w.if-parallel.false))
+    ]
 
 pub compatible_parts-returns-else-compatible_part : goal.compatible_parts-returns-else-compatible_part
 compatible_parts-returns-else-compatible_part t c base p q l =
-    both-parts base _ p q c.args.parallel _ _ _ l.before c.below-p.ensures c.from-q.ensures (sym c.is_empty.ensures ∙ c.if-is_empty.false)
-    (sym c.is_empty-2.ensures ∙ c.if-is_empty-2.false) c.if-not-parallel.false
-    (neither _ (sym (c.compatible_part-2.ensures _ p l.first) ∙ c.if-compatible_part.false))
+    elim c.if-parallel.branch [
+      | compatible_parts-then-parallel w ↦
+          both-parts base _ p q c.args.parallel _ _ _ l.before c.below-p.ensures c.from-q.ensures (sym c.is_empty.ensures ∙ c.if-is_empty.false)
+          (sym c.is_empty-2.ensures ∙ c.if-is_empty-2.false) w.if-parallel.true
+          (c.if-compatible_part.false ∙ neither _ (sym (w.compatible_part-then-parallel.ensures _ p l.first) ∙ sym w.value-is ∙ c.if-compatible_part.false))
+      | compatible_parts-else-parallel w ↦
+          both-active base _ p q c.args.parallel _ _ _ l.before c.below-p.ensures c.from-q.ensures (sym c.is_empty.ensures ∙ c.if-is_empty.false)
+          (sym c.is_empty-2.ensures ∙ c.if-is_empty-2.false) w.if-parallel.false (w.value-is ∙ w.if-parallel.false)
+    ]

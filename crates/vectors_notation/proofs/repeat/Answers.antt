@@ -1,18 +1,29 @@
-use Rattle.std.proofs.Common.{◌∙◌}
-use Rattle.vectors_notation.proofs.Rooms.{again-on, again-end, repeat-none, repeat_many, repeat-is}
+use Rattle.std.proofs.Common.{arith, ◌∙◌}
+use Rattle.vectors_notation.proofs.Rooms.{again-on, again-none, again-end, repeat-none, repeat_many, repeat-is}
 use Rattle.vectors_notation.proofs.repeat.Goals as goal
 
 pub returns-then-line-from : goal.returns-then-line-from
-returns-then-line-from c = c.zeros.ensures ∙ repeat-none _ _ _ c.if-line-from.true
+returns-then-line-from c = repeat-none _ _ _ c.if-line-from.true
 
-pub returns-then-times : goal.returns-then-times
-returns-then-times c =
-    c.zeros-then-times.ensures ∙ repeat_many _ _ _ _ _ c.if-line-from.false c.find-end.ensures.place c.number-times.ensures c.if-times.true
+pub returns-in_err-times : goal.returns-in_err-times
+returns-in_err-times c =
+    rw c.from_residual.ensures
+    (repeat_many _ _ _ _ _ c.if-line-from.false c.find-end.ensures.place c.in_err-times.ensures (omega arith))
 
-pub loop-times-preserved : goal.loop-times-preserved
-loop-times-preserved c = again-on _ _ _ _ _ _ c.loop-times-test.true c.append-after.ensures c.loop-times.invariant
+pub returns-then-times-ge-ROOM : goal.returns-then-times-ge-ROOM
+returns-then-times-ge-ROOM c =
+    repeat_many _ _ _ _ _ c.if-line-from.false c.find-end.ensures.place c.in_ok-times.ensures c.if-times-ge-ROOM.true
+
+pub loop-preserved : goal.loop-preserved
+loop-preserved c = again-on _ _ _ _ _ _ c.loop.invariant _ c.loop-test.true c.in_ok-after.ensures
+
+pub returns-in_err-after : goal.returns-in_err-after
+returns-in_err-after c =
+    rw c.from_residual-in_err-after.ensures
+    (again-none _ _ _ _ _ _ c.loop.invariant c.loop-test.true c.in_err-after.ensures
+    ∙ repeat-is _ _ _ _ _ c.if-line-from.false c.find-end.ensures.place c.in_ok-times.ensures c.if-times-ge-ROOM.false)
 
 pub returns : goal.returns
 returns c =
-    again-end _ _ _ _ _ c.loop-times-test.false c.loop-times.invariant
-    ∙ repeat-is _ _ _ _ _ c.if-line-from.false c.find-end.ensures.place c.number-times.ensures c.if-times.false
+    again-end _ _ _ _ _ _ c.loop.invariant c.loop-test.false
+    ∙ repeat-is _ _ _ _ _ c.if-line-from.false c.find-end.ensures.place c.in_ok-times.ensures c.if-times-ge-ROOM.false

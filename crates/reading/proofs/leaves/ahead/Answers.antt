@@ -5,14 +5,8 @@ use borrow.Author.Tests.{lt-ltb}
 use Rattle.spec_base.specs.Limits.{label_count, signal_count}
 use Rattle.spec_sequence.specs.Commands.{Command}
 use Rattle.layout.proofs.Leaves.{notes-none}
-use Rattle.reading.proofs.Leaving.{not_ahead, ahead-bare, notable-ahead, ahead-noted}
+use Rattle.reading.proofs.Leaving.{ahead-bare, notable-ahead, ahead-noted}
 use Rattle.reading.proofs.leaves.ahead.Goals as goal
-
-pub returns-then-depth-eq0 : goal.returns-then-depth-eq0
-returns-then-depth-eq0 c = not_ahead _ _ _ _
-
-pub returns-then-s-le1 : goal.returns-then-s-le1
-returns-then-s-le1 c = not_ahead _ _ _ _
 
 pub returns-then-b-eq-NOTHING : goal.returns-then-b-eq-NOTHING
 returns-then-b-eq-NOTHING c =
@@ -23,19 +17,10 @@ returns-then-x-lt-SIGNALS c =
     ahead-noted c.args.depth c.args.at c.if-depth-eq0.false c.args.s.now c.args.notes.now Command.emit c.if-b-eq-EMIT.true refl refl
     (omega (arith, c.if-s-le1.false)) (λ xs. sym (lt-ltb (get_or c.args.s.now 1 0) signal_count c.if-x-lt-SIGNALS.true)) _ (notes-none _ _ _ (λ e. absurd (omega (arith, e, c.if-b-eq-EMIT.true))) (λ e. absurd (omega (arith, e, c.if-b-eq-EMIT.true))) (λ e. absurd (omega (arith, e, c.if-b-eq-EMIT.true))))
 
-pub returns-then-b-eq-EMIT : goal.returns-then-b-eq-EMIT
-returns-then-b-eq-EMIT c = not_ahead _ _ _ _
-
 pub returns-then-is_exit : goal.returns-then-is_exit
 returns-then-is_exit c =
     ahead-noted c.args.depth c.args.at c.if-depth-eq0.false c.args.s.now c.args.notes.now Command.exit c.if-b-eq-EXIT.true refl refl
     (omega (arith, c.if-s-le1.false)) (λ xs. sym c.if-is_exit.true ∙ c.is_exit.ensures xs) _ (notes-none _ _ _ (λ e. absurd (omega (arith, e, c.if-b-eq-EXIT.true))) (λ e. absurd (omega (arith, e, c.if-b-eq-EXIT.true))) (λ e. absurd (omega (arith, e, c.if-b-eq-EXIT.true))))
-
-pub returns-then-b-eq-EXIT : goal.returns-then-b-eq-EXIT
-returns-then-b-eq-EXIT c = not_ahead _ _ _ _
-
-pub returns-then-x-ge-LABELS : goal.returns-then-x-ge-LABELS
-returns-then-x-ge-LABELS c = not_ahead _ _ _ _
 
 pub leaf-requires : goal.leaf-requires
 leaf-requires c =
@@ -56,6 +41,3 @@ pub returns-then-b-eq-SETPAUSE : goal.returns-then-b-eq-SETPAUSE
 returns-then-b-eq-SETPAUSE c =
     ahead-noted c.args.depth c.args.at c.if-depth-eq0.false c.args.s.now c.args.notes.now Command.setpause c.if-b-eq-SETPAUSE.true refl refl
     (omega (arith, c.if-s-le1.false)) (λ xs. sym (lt-ltb (get_or c.args.s.now 1 0) label_count (omega (arith, c.if-x-ge-LABELS.false)))) _ c.leaf-then-b-eq-SETPAUSE.ensures
-
-pub returns : goal.returns
-returns c = not_ahead _ _ _ _

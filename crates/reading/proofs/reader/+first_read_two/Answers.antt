@@ -54,24 +54,24 @@ module _ (d g b : ℕ) (s t u m n : List ℕ) (r : ℕ) where
   first-is : Readable g b s t m → Done g b t u m n (reads d g b (rest 0 s)) r → r < row_unit → Firsts d g b s t u m n r
   first-is can h small = firsts d g b s t u m n r can (first-told h) small
 
-pub first-ahead-m-requires : goal.first-ahead-m-requires
-first-ahead-m-requires t c = fitting c.requires
+pub first-ahead-requires : goal.first-ahead-requires
+first-ahead-requires t c = fitting c.requires
 
-pub first-returns-then-m-ne0 : goal.first-returns-then-m-ne0
-first-returns-then-m-ne0 t c = c.ahead-m.ensures.1 c.if-m-ne0.true c.args.signals c.args.second.now
+pub first-returns-in-Some : goal.first-returns-in-Some
+first-returns-in-Some t c = c.in-Some.ensures c.args.signals c.args.second.now
 
 pub first-read-requires : goal.first-read-requires
 first-read-requires t c = (
   omega (arith, c.decreases),
   subst (λ (m : List ℕ). Readable c.args.signals c.args.at (rest 0 c.args.s.now) c.args.second.now m)
-      (sym (c.ahead-m.ensures.0 c.if-m-ne0.false)) (again c.requires),
+      (sym c.in_default.ensures) (again c.requires),
 )
 
 pub first-returns : goal.first-returns
 first-returns t c =
     subst₂ (λ (m l : List ℕ). Done c.args.signals c.args.at c.args.second.now c.read.new.second m c.read.new.notes
     (reads c.args.depth c.args.signals c.args.at l) c.read.result)
-    (c.ahead-m.ensures.0 c.if-m-ne0.false) (rest-is 0 c.args.s.now) c.read.ensures
+    c.in_default.ensures (rest-is 0 c.args.s.now) c.read.ensures
 
 pub read-returns-then-s-eq0 : goal.read-returns-then-s-eq0
 read-returns-then-s-eq0 t c = done_empty c.args.depth c.args.signals c.args.at c.args.s.now c.args.second.now c.args.second.now c.args.notes.now c.args.notes.now c.if-s-eq0.true
@@ -143,13 +143,13 @@ read-returns-then-choice t c =
     let k = chosen h (parted h c.is_leaf.ensures c.if-is_leaf.false) c.is_choice-choice.ensures c.if-choice.true in
     done-pair (narrow h k.1) c.args.depth c.args.signals c.args.at (level c.is_deep.ensures c.if-is_deep.false) k.0 _ (rest-is 2 c.args.s.now) c.args.second.now c.two-then-choice.new.second c.args.notes.now c.two-then-choice.new.notes c.two-then-choice.result c.two-then-choice.ensures
 
-pub read-declare-left-requires : goal.read-declare-left-requires
-read-declare-left-requires t c = c.requires.allowed
+pub read-declare-requires : goal.read-declare-requires
+read-declare-requires t c = c.requires.allowed
 
-pub read-returns-then-left : goal.read-returns-then-left
-read-returns-then-left t c =
+pub read-returns-in_default : goal.read-returns-in_default
+read-returns-in_default t c =
     let h = heading c.args.s.now c.width-w.result c.width-w.ensures c.if-w-ge-ROW_UNIT.false in
-    done-signals h c.args.depth c.args.signals c.args.at (level c.is_deep.ensures c.if-is_deep.false) c.args.second.now c.args.second.now c.args.notes.now c.declare-left.new.notes 1 (sym (declared h (parted h c.is_leaf.ensures c.if-is_leaf.false) c.declares-declaring.ensures c.if-declaring.true).2) (omega (arith, c.declare-left.ensures.crowded c.if-left.true))
+    done-signals h c.args.depth c.args.signals c.args.at (level c.is_deep.ensures c.if-is_deep.false) c.args.second.now c.args.second.now c.args.notes.now c.declare.new.notes 1 (sym (declared h (parted h c.is_leaf.ensures c.if-is_leaf.false) c.declares-declaring.ensures c.if-declaring.true).2) (omega (arith, c.in_default.ensures))
 
 pub read-slice_bounds-read-count : goal.read-slice_bounds-read-count
 read-slice_bounds-read-count t c =
@@ -167,18 +167,16 @@ read-overflow_sub-depth-then-declaring t c = let n = level c.is_deep.ensures c.i
 pub read-read-requires : goal.read-read-requires
 read-read-requires t c =
     let h = heading c.args.s.now c.width-w.result c.width-w.ensures c.if-w-ge-ROW_UNIT.false in
-    let d = c.declare-left in
-    let l = d.ensures.left c.if-left.false in
-    (omega (arith, c.decreases, level c.is_deep.ensures c.if-is_deep.false), within 2 _ _ (wide_fits h (declared h (parted h c.is_leaf.ensures c.if-is_leaf.false) c.declares-declaring.ensures c.if-declaring.true).1) (omega (arith, l)) (d.ensures.noted c.if-left.false) c.requires)
+    let l = c.in-Some.ensures in
+    (omega (arith, c.decreases, level c.is_deep.ensures c.if-is_deep.false), within 2 _ _ (wide_fits h (declared h (parted h c.is_leaf.ensures c.if-is_leaf.false) c.declares-declaring.ensures c.if-declaring.true).1) (omega (arith, l.0, l.1)) l.2 c.requires)
 
 pub read-returns-then-declaring : goal.read-returns-then-declaring
 read-returns-then-declaring t c =
     let h = heading c.args.s.now c.width-w.result c.width-w.ensures c.if-w-ge-ROW_UNIT.false in
     let k = declared h (parted h c.is_leaf.ensures c.if-is_leaf.false) c.declares-declaring.ensures c.if-declaring.true in
-    let d = c.declare-left in
-    let l = d.ensures.left c.if-left.false in
+    let l = c.in-Some.ensures in
     done-signal (narrow h k.1) c.args.depth c.args.signals c.args.at (level c.is_deep.ensures c.if-is_deep.false) k.0 k.2 l.0 c.requires.allowed _
-    (rest-is 2 c.args.s.now) c.args.second.now c.read.new.second c.args.notes.now c.declare-left.new.notes c.read.new.notes c.read.result (d.ensures.noted c.if-left.false) (rw l.1 at c.read.ensures)
+    (rest-is 2 c.args.s.now) c.args.second.now c.read.new.second c.args.notes.now c.declare.new.notes c.read.new.notes c.read.result l.2 (rw l.1 at c.read.ensures)
 
 pub read-slice_bounds-read-count-2 : goal.read-slice_bounds-read-count-2
 read-slice_bounds-read-count-2 t c =

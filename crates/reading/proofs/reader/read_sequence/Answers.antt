@@ -7,7 +7,7 @@ use Rattle.spec_sequence.specs.Reader.{read}
 use Rattle.layout.specs.Layout.{rest}
 use Rattle.layout.specs.Walk.{Done}
 use Rattle.layout.proofs.Parts.{rest-is}
-use Rattle.reading.proofs.Reading.{beginning, row, reads-refused, most-fits, reads-accepted}
+use Rattle.reading.proofs.Reading.{beginning, packs, reads-refused, most-fits, reads-accepted}
 use Rattle.reading.proofs.reader.read_sequence.Goals as goal
 
 -- what was read, of the bytes themselves
@@ -19,14 +19,13 @@ pub read-m-requires : goal.read-m-requires
 read-m-requires c =
     beginning c.args.s.now _ _ c.requires.s_len_bound c.requires.second_len c.requires.notes_value
 
-pub overflow_cast-result : goal.overflow_cast-result
-overflow_cast-result c =
-    let k = row _ _ _ _ _ _ c.requires.s_len_bound c.requires.second_len c.requires.notes_value (told c.args.s.now c.args.second.now c.read-m.new.second c.args.notes.now c.read-m.new.notes c.read-m.result c.read-m.ensures) c.if-m-ge-ROW_UNIT.true in
-    record { fits = omega (arith, k.1.1, k.1.2) }
+pub refusal_in-requires : goal.refusal_in-requires
+refusal_in-requires c =
+    packs _ _ _ _ _ _ c.requires.s_len_bound c.requires.second_len c.requires.notes_value (told c.args.s.now c.args.second.now c.read-m.new.second c.args.notes.now c.read-m.new.notes c.read-m.result c.read-m.ensures) c.if-m-ge-ROW_UNIT.true
 
 pub returns-then-m-ge-ROW_UNIT : goal.returns-then-m-ge-ROW_UNIT
 returns-then-m-ge-ROW_UNIT c =
-    reads-refused _ _ _ _ _ _ c.requires.s_len_bound c.requires.second_len c.requires.notes_value (told c.args.s.now c.args.second.now c.read-m.new.second c.args.notes.now c.read-m.new.notes c.read-m.result c.read-m.ensures) c.if-m-ge-ROW_UNIT.true
+    reads-refused _ _ _ _ _ _ c.requires.s_len_bound c.requires.second_len c.requires.notes_value (told c.args.s.now c.args.second.now c.read-m.new.second c.args.notes.now c.read-m.new.notes c.read-m.result c.read-m.ensures) c.if-m-ge-ROW_UNIT.true _ c.refusal_in.ensures
 
 pub most-requires : goal.most-requires
 most-requires c =

@@ -1,17 +1,16 @@
-use mathlib.Core.Path.{sym, ap, ◌∙◌}
+use mathlib.Core.Path.{sym, ◌∙◌}
 use native.Mathlib.Omega.{arith}
 use borrow.Author.Rules.{rules}
 use borrow.Author.Tests.{ltb-true}
-use Rattle.spec_base.specs.Sets.{below, from}
 use Rattle.spec_language.specs.Statement.{pause}
 use Rattle.spec_sequence.specs.Commands.{Command}
 use Rattle.layout.proofs.Laid.{taken-apart, begins, first-ready, second-ready}
 use Rattle.commands.proofs.Shapes.{found, there, one-ready, two_ready}
-use Rattle.resume.proofs.KeptSteps.{tested, part_mask, here, empty_step, pause_step, parts_step, leaf_step, one-step, two-step}
+use Rattle.resume.proofs.KeptSteps.{here, empty_step, pause_step, parts_step, leaf_step, one-step, two-step}
 use Rattle.resume.proofs.kept.+inside_part_parts.Goals as goal
 
 pub inside-returns-then-is_empty : goal.inside-returns-then-is_empty
-inside-returns-then-is_empty t c base p l = empty_step base _ p (tested c.from_words.ensures c.is_empty.ensures c.if-is_empty.true)
+inside-returns-then-is_empty t c base p l = empty_step base _ p (sym c.is_empty.ensures ∙ c.if-is_empty.true)
 
 pub inside-bounds-s-1 : goal.inside-bounds-s-1
 inside-bounds-s-1 t c = (begins c.requires Command.pause (search rules)).there
@@ -30,7 +29,7 @@ inside-parts-requires t c =
 pub inside-returns-then-command-eq-PAUSE : goal.inside-returns-then-command-eq-PAUSE
 inside-returns-then-command-eq-PAUSE t c base p l =
     let y = taken-apart c.requires base p l Command.pause c.if-command-eq-PAUSE.true in
-    here (pause _) p base _ y.parts (pause_step base _ _ (ltb-true _ _ y.ranged) (tested c.from_words.ensures c.is_empty.ensures c.if-is_empty.false) c.add.ensures)
+    here (pause _) p base _ y.parts (pause_step base _ _ (ltb-true _ _ y.ranged) (sym c.is_empty.ensures ∙ c.if-is_empty.false) c.add.ensures)
 
 pub inside-returns-else-command-eq-PAUSE : goal.inside-returns-else-command-eq-PAUSE
 inside-returns-else-command-eq-PAUSE t c base p l =
@@ -55,8 +54,7 @@ parts-part-requires t c = (omega (arith, (first-ready c.requires).levels), (c.re
 
 pub parts-returns-then-is_empty : goal.parts-returns-then-is_empty
 parts-returns-then-is_empty t c base p q l =
-    parts_step base _ p q _ l.before (c.below-first.ensures ∙ ap (below _) c.from_words-active.ensures)
-    (part_mask (from _) c.from_words-active.ensures c.from-others.ensures c.low_word-low_others.ensures c.high_word-high_others.ensures)
+    parts_step base _ p q _ l.before c.below-first.ensures c.from-others.ensures
     (empty_step base _ p (sym c.is_empty.ensures ∙ c.if-is_empty.true)) (c.part.ensures _ q l.second)
 
 pub parts-overflow_sub-depth-2 : goal.parts-overflow_sub-depth-2
@@ -67,9 +65,7 @@ parts-part-requires-2 t c = (omega (arith, (first-ready c.requires).levels), (c.
 
 pub parts-returns-then-is_empty-2 : goal.parts-returns-then-is_empty-2
 parts-returns-then-is_empty-2 t c base p q l =
-    parts_step base _ p q _ l.before
-    (part_mask (below _) c.from_words-active.ensures c.below-first.ensures c.low_word-low_first.ensures c.high_word-high_first.ensures)
-    (c.from-others.ensures ∙ ap (from _) c.from_words-active.ensures) (c.part-2.ensures base p l.first)
+    parts_step base _ p q _ l.before c.below-first.ensures c.from-others.ensures (c.part-2.ensures base p l.first)
     (empty_step _ _ q (sym c.is_empty-2.ensures ∙ c.if-is_empty-2.true))
 
 pub parts-overflow_sub-depth-3 : goal.parts-overflow_sub-depth-3
@@ -80,7 +76,5 @@ parts-part-requires-3 t c = (omega (arith, (first-ready c.requires).levels), (c.
 
 pub parts-returns : goal.parts-returns
 parts-returns t c base p q l =
-    parts_step base _ p q _ l.before
-    (part_mask (below _) c.from_words-active.ensures c.below-first.ensures c.low_word-low_first.ensures c.high_word-high_first.ensures)
-    (part_mask (from _) c.from_words-active.ensures c.from-others.ensures c.low_word-low_others.ensures c.high_word-high_others.ensures)
+    parts_step base _ p q _ l.before c.below-first.ensures c.from-others.ensures
     (c.part-2.ensures base p l.first) (c.part-3.ensures _ q l.second)

@@ -3,7 +3,7 @@ use native.Mathlib.Omega.{arith}
 use borrow.Author.Rules.{rules}
 use Rattle.spec_sequence.specs.Commands.{Command}
 use Rattle.unroll_call.proofs.Putting.{put_then}
-use Rattle.unroll_call.proofs.Writing.{own_nothing, own_deliver, own_signal, own_try, own_suspend, own_seq, own_par, own_present, leaf_room, leaf-writes, one-head, one-writable, one_writes, loop-writable, loop-writes, two-head, two-writable, two-writes, other, first-writable, second-writable, loop-room, copy-ready, whole-writable, whole-writes}
+use Rattle.unroll_call.proofs.Writing.{own_nothing, own_deliver, own_try, own_present, leaf_room, leaf-writes, one-head, one-writable, one_writes, loop-writable, loop-writes, two-head, two-writable, two-writes, four_or_five, both-head, both-writable, both-writes, wide-head, wide-writable, wide-writes, other, first-writable, second-writable, loop-room, copy-ready, whole-writable, whole-writes}
 use Rattle.unroll_call.proofs.writer.+looped_part_parts_write.Goals as goal
 
 pub looped-put_two-j-requires : goal.looped-put_two-j-requires
@@ -51,80 +51,62 @@ parts-part-requires t c = (omega (arith, (first-writable (c.requires)).1.ready.l
 pub parts-returns : goal.parts-returns
 parts-returns t c = λ base p q l. put_then (c.part-j.ensures base p l.first) (c.part.ensures _ q l.second)
 
-pub write-one-requires : goal.write-one-requires
-write-one-requires t c = let o = leaf_room c.requires Command.nothing refl c.in-0.is own_nothing in record { in_bounds = o.0; room = o.1 }
-
-pub write-one-requires-in-4 : goal.write-one-requires-in-4
-write-one-requires-in-4 t c = let o = two-head c.requires Command.seq refl c.in-4.is own_seq in record { in_bounds = o.0; room = o.1 }
-
-pub write-parts-requires : goal.write-parts-requires
-write-parts-requires t c = (search rules, two-writable c.requires Command.seq refl c.in-4.is own_seq c.one-in-4.ensures)
-
-pub write-one-requires-in-5 : goal.write-one-requires-in-5
-write-one-requires-in-5 t c = let o = two-head c.requires Command.par refl c.in-5.is own_par in record { in_bounds = o.0; room = o.1 }
-
-pub write-parts-requires-in-5 : goal.write-parts-requires-in-5
-write-parts-requires-in-5 t c = (search rules, two-writable c.requires Command.par refl c.in-5.is own_par c.one-in-5.ensures)
+pub write-own-requires : goal.write-own-requires
+write-own-requires t c = let o = leaf_room c.requires Command.nothing refl c.in-0.is own_nothing in record { in_bounds = o.0; room = o.1 }
 
 pub write-looped-requires : goal.write-looped-requires
 write-looped-requires t c = (search rules, loop-writable c.requires c.in-6.is)
 
-pub write-two-requires : goal.write-two-requires
-write-two-requires t c = let o = two-head c.requires Command.present refl c.in-7.is own_present in record { in_bounds = o.0; room = o.1 }
+pub write-own-requires-in-7 : goal.write-own-requires-in-7
+write-own-requires-in-7 t c = let o = two-head c.requires Command.present refl c.in-7.is own_present in record { in_bounds = o.0; room = o.1 }
 
-pub write-parts-requires-in-7 : goal.write-parts-requires-in-7
-write-parts-requires-in-7 t c = (search rules, two-writable c.requires Command.present refl c.in-7.is own_present c.two.ensures)
-
-pub write-two-j-requires : goal.write-two-j-requires
-write-two-j-requires t c = let o = one-head c.requires Command.signal refl c.in-8.is own_signal in record { in_bounds = o.0; room = o.1 }
-
-pub write-part-requires : goal.write-part-requires
-write-part-requires t c = (search rules, one-writable c.requires Command.signal refl c.in-8.is own_signal c.two-j.ensures)
-
-pub write-one-j-requires : goal.write-one-j-requires
-write-one-j-requires t c = let o = one-head c.requires Command.try refl c.in-9.is own_try in record { in_bounds = o.0; room = o.1 }
+pub write-own-j-requires-in-9 : goal.write-own-j-requires-in-9
+write-own-j-requires-in-9 t c = let o = one-head c.requires Command.try refl c.in-9.is own_try in record { in_bounds = o.0; room = o.1 }
 
 pub write-part-requires-in-9 : goal.write-part-requires-in-9
-write-part-requires-in-9 t c = (search rules, one-writable c.requires Command.try refl c.in-9.is own_try c.one-j.ensures)
+write-part-requires-in-9 t c = (search rules, one-writable c.requires Command.try refl c.in-9.is own_try c.own-j-in-9.ensures)
 
-pub write-two-j-requires-in-11 : goal.write-two-j-requires-in-11
-write-two-j-requires-in-11 t c = let o = one-head c.requires Command.suspend refl c.in-11.is own_suspend in record { in_bounds = o.0; room = o.1 }
+pub write-own-requires-in-12 : goal.write-own-requires-in-12
+write-own-requires-in-12 t c = let o = leaf_room c.requires Command.deliver refl c.in-12.is own_deliver in record { in_bounds = o.0; room = o.1 }
 
-pub write-part-requires-in-11 : goal.write-part-requires-in-11
-write-part-requires-in-11 t c = (search rules, one-writable c.requires Command.suspend refl c.in-11.is own_suspend c.two-j-in-11.ensures)
-
-pub write-six-requires : goal.write-six-requires
-write-six-requires t c = let o = leaf_room c.requires Command.deliver refl c.in-12.is own_deliver in record { in_bounds = o.0; room = o.1 }
-
-pub write-two-requires-in_default : goal.write-two-requires-in_default
-write-two-requires-in_default t c = let o = other c.requires (search rules) in record { in_bounds = o.there; room = o.room }
+pub write-own-requires-in_default : goal.write-own-requires-in_default
+write-own-requires-in_default t c = let o = other c.requires (search rules) in record { in_bounds = o.there; room = o.room }
 
 pub write-returns-in-0 : goal.write-returns-in-0
-write-returns-in-0 t c = leaf-writes c.requires Command.nothing refl c.in-0.is own_nothing c.one.ensures
-
-pub write-returns-in-4 : goal.write-returns-in-4
-write-returns-in-4 t c = two-writes c.requires Command.seq refl c.in-4.is own_seq c.one-in-4.ensures c.parts.ensures
-
-pub write-returns-in-5 : goal.write-returns-in-5
-write-returns-in-5 t c = two-writes c.requires Command.par refl c.in-5.is own_par c.one-in-5.ensures c.parts-in-5.ensures
+write-returns-in-0 t c = leaf-writes c.requires Command.nothing refl c.in-0.is own_nothing c.own.ensures
 
 pub write-returns-in-6 : goal.write-returns-in-6
 write-returns-in-6 t c = loop-writes c.requires c.in-6.is c.looped.ensures
 
-pub write-returns-in-7 : goal.write-returns-in-7
-write-returns-in-7 t c = two-writes c.requires Command.present refl c.in-7.is own_present c.two.ensures c.parts-in-7.ensures
-
-pub write-returns-in-8 : goal.write-returns-in-8
-write-returns-in-8 t c = one_writes c.requires Command.signal refl c.in-8.is own_signal c.two-j.ensures c.part.ensures
-
 pub write-returns-in-9 : goal.write-returns-in-9
-write-returns-in-9 t c = one_writes c.requires Command.try refl c.in-9.is own_try c.one-j.ensures c.part-in-9.ensures
-
-pub write-returns-in-11 : goal.write-returns-in-11
-write-returns-in-11 t c = one_writes c.requires Command.suspend refl c.in-11.is own_suspend c.two-j-in-11.ensures c.part-in-11.ensures
+write-returns-in-9 t c = one_writes c.requires Command.try refl c.in-9.is own_try c.own-j-in-9.ensures c.part-in-9.ensures
 
 pub write-returns-in-12 : goal.write-returns-in-12
-write-returns-in-12 t c = leaf-writes c.requires Command.deliver refl c.in-12.is own_deliver c.six.ensures
+write-returns-in-12 t c = leaf-writes c.requires Command.deliver refl c.in-12.is own_deliver c.own-in-12.ensures
 
 pub write-returns-in_default : goal.write-returns-in_default
-write-returns-in_default t c = (other c.requires (search rules)).writes c.two-in_default.ensures
+write-returns-in_default t c = (other c.requires (search rules)).writes c.own-in_default.ensures
+
+pub write-own-requires-in-4 : goal.write-own-requires-in-4
+write-own-requires-in-4 t c = let o = both-head c.requires (four_or_five _ (omega arith) (omega arith)) in record { in_bounds = o.0; room = o.1 }
+
+pub write-parts-requires-in-4 : goal.write-parts-requires-in-4
+write-parts-requires-in-4 t c = (search rules, both-writable c.requires (four_or_five _ (omega arith) (omega arith)) c.own-in-4.ensures)
+
+pub write-parts-requires : goal.write-parts-requires
+write-parts-requires t c = (search rules, two-writable c.requires Command.present refl c.in-7.is own_present c.own-in-7.ensures)
+
+pub write-own-j-requires : goal.write-own-j-requires
+write-own-j-requires t c = let o = wide-head c.requires c.in-8.is in record { in_bounds = o.0; room = o.1 }
+
+pub write-part-requires : goal.write-part-requires
+write-part-requires t c = (search rules, wide-writable c.requires c.in-8.is c.own-j.ensures)
+
+pub write-returns-in-4 : goal.write-returns-in-4
+write-returns-in-4 t c = both-writes c.requires (four_or_five _ (omega arith) (omega arith)) c.own-in-4.ensures c.parts-in-4.ensures
+
+pub write-returns-in-7 : goal.write-returns-in-7
+write-returns-in-7 t c = two-writes c.requires Command.present refl c.in-7.is own_present c.own-in-7.ensures c.parts.ensures
+
+pub write-returns-in-8 : goal.write-returns-in-8
+write-returns-in-8 t c = wide-writes c.requires c.in-8.is c.own-j.ensures c.part.ensures

@@ -4,7 +4,7 @@ use Rattle.wellformed.proofs.Rows.{row_here, no_row}
 use Rattle.wellformed.proofs.matrix.row.Goals as goal
 
 pub returns-then-k-lt-LABELS : goal.returns-then-k-lt-LABELS
-returns-then-k-lt-LABELS c = c.from_words.ensures ∙ row_here label_count _ _ c.if-k-lt-LABELS.true
+returns-then-k-lt-LABELS c = row_here label_count c.args.k c.args.rows.now c.if-k-lt-LABELS.true
 
 pub returns-else-k-lt-LABELS : goal.returns-else-k-lt-LABELS
-returns-else-k-lt-LABELS c = c.empty.ensures ∙ no_row label_count _ _ c.if-k-lt-LABELS.false
+returns-else-k-lt-LABELS c = c.empty.ensures ∙ no_row label_count c.args.k c.args.rows.now c.if-k-lt-LABELS.false
