@@ -1,7 +1,8 @@
 -- The loops that gather the bytes of a line, once and as often as it says.
 use Prim.Native.Nat.{ℕ, zero, suc, ◌+◌, ◌-◌, ◌≤◌, ◌<◌}
 use native.Mathlib.Omega.{arith}
-use mathlib.Core.Path.{◌≡◌, refl, sym, ap, ap₂, ◌∙◌}
+use mathlib.Core.Path.{◌≡◌, refl, sym, ap, ap₂, subst, ◌∙◌}
+use mathlib.Core.Logic.{◌⊎◌, inl, inr}
 use mathlib.Core.Bool.{Bool, true, false, cond}
 use mathlib.Core.List.{List}
 use lib.ListN.{length}
@@ -9,7 +10,14 @@ use lib.Dec.{ltb}
 use borrow.Author.Tests.{lt-ltb, le-ltb}
 use Rattle.vectors_notation.specs.Digits.{number_in}
 use Rattle.vectors_notation.specs.Words.{next_space, word_value, word_end}
+use Rattle.vectors_notation.specs.declared.Bytes.{Bytes}
 use Rattle.vectors_notation.specs.Room.{Held, pushed, words_from, appended, again, repeated, zeroed, room_length, malformed_count}
+
+-- what a step keeps or bounds, after what was kept or bounded before it
+pub kept_or_fits : {x y z : Bytes} → (z ≡ y) ⊎ (z.count ≤ room_length) → (y ≡ x) ⊎ (y.count ≤ room_length) → (z ≡ x) ⊎ (z.count ≤ room_length)
+kept_or_fits (inl e) (inl f) = inl (e ∙ f)
+kept_or_fits (inl e) (inr l) = inr (subst (λ (b : Bytes). b.count ≤ room_length) (sym e) l)
+kept_or_fits (inr l) g = inr l
 
 module _ (line : List ℕ) where
   -- each word has a byte, so a line has no more words than bytes

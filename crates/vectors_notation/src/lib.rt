@@ -4,11 +4,11 @@
 pub mod print;
 pub mod scan;
 
-ghost use Rattle.std.specs.Prelude.{◌<◌, ◌≤◌, min, ◌+◌, ◌≡◌, length};
-ghost use Rattle.std.specs.Option.{unwrap_or};
+ghost use Rattle.std.specs.Prelude.{◌<◌, ◌≤◌, min, ◌+◌, ◌≡◌, ◌⊎◌, length};
+ghost use Rattle.std.specs.Option.{unwrap_or, IfSome};
 ghost use Rattle.vectors_notation.specs.Digits.{not_a_digit, no_number, digit_of, extended_by, number_in};
 ghost use Rattle.vectors_notation.specs.Words.{word_value, word_end};
-ghost use Rattle.vectors_notation.specs.Room.{holds, held_or_malformed, zeroed, pushed, appended, repeated};
+ghost use Rattle.vectors_notation.specs.Room.{room_length, holds, held_or_malformed, zeroed, pushed, appended, repeated};
 
 // The digit that a byte is, 0 to 9 and A to F.
 #[tactic(auto, unfolding(crate::specs::Digits::digit_of))]
@@ -97,7 +97,8 @@ pub fn zeros(count: usize) -> Bytes
 
 // One byte more; a malformed line gives none.
 fn push(mut bytes: Bytes, value: Option<u32>) -> Option<Bytes>
-    ensures { held_or_malformed result ≡ pushed (holds bytes) (unwrap_or value no_number) }
+    ensures held { held_or_malformed result ≡ pushed (holds bytes) (unwrap_or value no_number) }
+    ensures fits { IfSome result (λ b. b.count ≤ room_length) }
 {
     let byte = u8::try_from(value?).ok()?;
     let count = bytes.count;
@@ -111,7 +112,8 @@ fn push(mut bytes: Bytes, value: Option<u32>) -> Option<Bytes>
 
 // The bytes before, and those that the line names from `from` on; none where it is malformed.
 pub fn append(line: &[u8], from: usize, before: Bytes) -> Option<Bytes>
-    ensures { held_or_malformed result ≡ appended line.now from (holds before) }
+    ensures held { held_or_malformed result ≡ appended line.now from (holds before) }
+    ensures fits { IfSome result (λ b. (b ≡ before) ⊎ (b.count ≤ room_length)) }
 {
     let mut after = before;
     let mut at = from;
@@ -126,7 +128,8 @@ pub fn append(line: &[u8], from: usize, before: Bytes) -> Option<Bytes>
 
 // The bytes before, and as often as the line says at `from`, those that it names behind that number; none where it is malformed.
 pub fn repeat(line: &[u8], from: usize, before: Bytes) -> Option<Bytes>
-    ensures { held_or_malformed result ≡ repeated line.now from (holds before) }
+    ensures held { held_or_malformed result ≡ repeated line.now from (holds before) }
+    ensures fits { IfSome result (λ b. (b ≡ before) ⊎ (b.count ≤ room_length)) }
 {
     if line.len() <= from {
         return None;
